@@ -1,0 +1,50 @@
+use Rattle.cell.specs.Bytes.{store16}
+use Rattle.cell.specs.Bytes.{bytes16}
+use native.Mathlib.Numerals.{add-one}
+use borrow.Author.Needs.{needs}
+use Rattle.cell.proofs.write16.Statement.{statement}
+use Rattle.cell.proofs.write16.Tie as tie
+use Rattle.cell.proofs.write16.Reads as reads
+use Rattle.cell.proofs.write16.Lts as lts
+use Rattle.cell.proofs.put_byte.Reads as put-byte-reads
+
+-- src/lib.rt:130:20
+cast-put-byte : tie.Need-cast-put-byte
+cast-put-byte c = search needs
+
+-- src/lib.rt:130:5
+put-byte-requires : tie.Need-put-byte-requires
+put-byte-requires c κs = search needs
+
+-- src/lib.rt:131:17
+add-put-byte : tie.Need-add-put-byte
+add-put-byte c = search needs
+
+-- src/lib.rt:131:24
+cast-put-byte-2 : tie.Need-cast-put-byte-2
+cast-put-byte-2 c = search needs
+
+-- src/lib.rt:131:5
+put-byte-requires-2 : tie.Need-put-byte-requires-2
+put-byte-requires-2 c κs = search needs
+
+-- src/lib.rt:126:1
+same-length : tie.Need-same-length
+same-length c = search needs
+
+-- src/lib.rt:126:1
+returns : tie.Need-returns
+unfolding store16
+returns c = cc
+
+pub write16-spec : {M : Type 1} → statement M
+write16-spec =
+    tie.close
+    (tie.spec
+    cast-put-byte
+    put-byte-requires
+    add-put-byte
+    cast-put-byte-2
+    put-byte-requires-2
+    same-length
+    returns)

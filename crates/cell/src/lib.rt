@@ -1,0 +1,384 @@
+// Records of a ticket and one-bit cells, after cell.rs. A record is read out of the ticket's bytes and
+// written into a reply; every reader and writer here is total, so that nothing above has an index to prove.
+use value::ControlNet;
+use value::Driver;
+use value::Net;
+use value::Slot;
+ghost use mathlib.Core.Path.{_≡_};
+ghost use Prim.Native.Nat.{_+_, _*_, _≤_, _<_};
+ghost use lib.ListN.{length, getD, set};
+ghost use lib.Seq.{sets};
+ghost use Rattle.cell.specs.Bytes.{word16, word32, store16, store32};
+ghost use Rattle.cell.specs.Kinds.{rowOf, kindOf, fieldOf, useOf, isOperandUse, isOperand, isCombEdge, edgeOf, edgeAt};
+ghost use Rattle.cell.specs.Records.{recordAt, bytesOf, recordOf, flagsOf, cellOf, cellRecord};
+
+// The 16 bytes of a slot, field by field.
+pub struct Record {
+    pub kind: u8,
+    pub flags: u8,
+    pub bit: u16,
+    pub a: u32,
+    pub b: u32,
+    pub c: u32,
+}
+
+// What a kind keeps in a field: nothing (the field is 0), a label, or an operand, which is a net.
+pub enum Use {
+    Unused,
+    Label,
+    Operand,
+}
+
+// A row of the kind table.
+pub struct Kind {
+    pub known: bool,
+    pub a: Use,
+    pub b: Use,
+    pub c: Use,
+    // The largest flags byte.
+    pub flags: u8,
+    pub one_bit: bool,
+    // Field a is the same in all bits of a cell.
+    pub common_a: bool,
+    // What a record adds to the gate count.
+    pub gates: u32,
+}
+
+// Where an operand leads: to a slot, or nowhere for a constant or a field that is no such operand.
+pub enum Edge {
+    To(Slot),
+    Nowhere,
+}
+
+// One bit of a cell, by value (cell.rs, `Cell`, with labels in place of names).
+pub enum Cell {
+    Input(u32),
+    Output(Net, u32),
+    Buf(Net),
+    Not(Net),
+    And(Net, Net),
+    Or(Net, Net),
+    Xor(Net, Net),
+    // a ? b : c
+    Mux(Net, Net, Net),
+    Aig(ControlNet, ControlNet),
+}
+
+// The byte at an index, and 0 past the end.
+pub fn byte(s: &[u8], i: usize) -> u8
+    ensures { λ r. ⌜ r ≡ getD (now (s .entry)) i 0 ⌝ }
+{
+    if i < s.len() { s[i] } else { 0 }
+}
+
+// Stores a byte; past the end nothing is changed.
+pub fn put_byte(s: &mut [u8], i: usize, v: u8)
+    ensures { λ _. ⌜ now (s .exit) ≡ set (now (s .entry)) i v ⌝ }
+{
+    if i < s.len() {
+        s[i] = v;
+    }
+}
+
+// The word at an index, and 0 past the end.
+pub fn word(s: &[u32], i: usize) -> u32
+    ensures { λ r. ⌜ r ≡ getD (now (s .entry)) i 0 ⌝ }
+{
+    if i < s.len() { s[i] } else { 0 }
+}
+
+// Stores a word; past the end nothing is changed.
+pub fn put(s: &mut [u32], i: usize, v: u32)
+    ensures { λ _. ⌜ now (s .exit) ≡ set (now (s .entry)) i v ⌝ }
+{
+    if i < s.len() {
+        s[i] = v;
+    }
+}
+
+fn wide(b: u8) -> u32
+    ensures { λ r. ⌜ r ≡ b ⌝ }
+{
+    b as u32
+}
+
+// A byte, and numbers whose bytes all lie in the slice: no test at the single bytes.
+fn inside(s: &[u8], i: usize) -> u8
+    requires { ⌜ i < length (now s) ⌝ }
+    ensures { λ r. ⌜ r ≡ getD (now (s .entry)) i 0 ⌝ }
+{
+    s[i]
+}
+
+fn inside16(s: &[u8], i: usize) -> u16
+    requires { ⌜ i + 2 ≤ length (now s) ⌝ }
+    ensures { λ r. ⌜ r ≡ word16 (now (s .entry)) i ⌝ }
+{
+    let low = inside(s, i) as u16;
+    let high = inside(s, i + 1) as u16;
+    low + 256 * high
+}
+
+fn inside32(s: &[u8], i: usize) -> u32
+    requires { ⌜ i + 4 ≤ length (now s) ⌝ }
+    ensures { λ r. ⌜ r ≡ word32 (now (s .entry)) i ⌝ }
+{
+    let b0 = wide(inside(s, i));
+    let b1 = wide(inside(s, i + 1));
+    let b2 = wide(inside(s, i + 2));
+    let b3 = wide(inside(s, i + 3));
+    b0 + 256 * (b1 + 256 * (b2 + 256 * b3))
+}
+
+fn read16(s: &[u8], i: usize) -> u16
+    requires { ⌜ i < 1099511627776 ⌝ }
+    ensures { λ r. ⌜ r ≡ word16 (now (s .entry)) i ⌝ }
+{
+    if i + 2 <= s.len() {
+        return inside16(s, i);
+    }
+    let low = byte(s, i) as u16;
+    let high = byte(s, i + 1) as u16;
+    low + 256 * high
+}
+
+fn read32(s: &[u8], i: usize) -> u32
+    requires { ⌜ i < 1099511627776 ⌝ }
+    ensures { λ r. ⌜ r ≡ word32 (now (s .entry)) i ⌝ }
+{
+    if i + 4 <= s.len() {
+        return inside32(s, i);
+    }
+    let b0 = wide(byte(s, i));
+    let b1 = wide(byte(s, i + 1));
+    let b2 = wide(byte(s, i + 2));
+    let b3 = wide(byte(s, i + 3));
+    b0 + 256 * (b1 + 256 * (b2 + 256 * b3))
+}
+
+fn write16(s: &mut [u8], i: usize, v: u16)
+    requires { ⌜ i < 1099511627776 ⌝ }
+    ensures { λ _. ⌜ now (s .exit) ≡ store16 (now (s .entry)) i v ⌝ }
+{
+    put_byte(s, i, (v % 256) as u8);
+    put_byte(s, i + 1, (v / 256 % 256) as u8);
+}
+
+fn write32(s: &mut [u8], i: usize, v: u32)
+    requires { ⌜ i < 1099511627776 ⌝ }
+    ensures { λ _. ⌜ now (s .exit) ≡ store32 (now (s .entry)) i v ⌝ }
+{
+    put_byte(s, i, (v % 256) as u8);
+    put_byte(s, i + 1, (v / 256 % 256) as u8);
+    put_byte(s, i + 2, (v / 65536 % 256) as u8);
+    put_byte(s, i + 3, (v / 16777216 % 256) as u8);
+}
+
+// The record of a slot.
+pub fn record_at(t: &[u8], s: Slot) -> Record
+    ensures { λ r. ⌜ r ≡ recordAt (now (t .entry)) (s .0) ⌝ }
+{
+    let i = (s.0 as usize) * 16;
+    Record {
+        kind: byte(t, i),
+        flags: byte(t, i + 1),
+        bit: read16(t, i + 2),
+        a: read32(t, i + 4),
+        b: read32(t, i + 8),
+        c: read32(t, i + 12),
+    }
+}
+
+// The kind byte of a slot.
+pub fn kind_at(t: &[u8], s: Slot) -> u8
+    ensures { λ r. ⌜ r ≡ recordAt (now (t .entry)) (s .0) .kind ⌝ }
+{
+    byte(t, (s.0 as usize) * 16)
+}
+
+// Writes a record's 16 bytes into a slot of a reply; what lies past the reply's end is left out.
+pub fn write_record(reply: &mut [u8], s: Slot, r: Record)
+    ensures { λ _. ⌜ now (reply .exit) ≡ sets (now (reply .entry)) (s .0 * 16) (bytesOf r) ⌝ }
+{
+    let i = (s.0 as usize) * 16;
+    put_byte(reply, i, r.kind);
+    put_byte(reply, i + 1, r.flags);
+    write16(reply, i + 2, r.bit);
+    write32(reply, i + 4, r.a);
+    write32(reply, i + 8, r.b);
+    write32(reply, i + 12, r.c);
+}
+
+fn row(a: Use, b: Use, c: Use, flags: u8, one_bit: bool, common_a: bool, gates: u32) -> Kind
+    ensures { λ r. ⌜ r ≡ rowOf a b c flags «one_bit» «common_a» gates ⌝ }
+{
+    Kind {
+        known: true,
+        a,
+        b,
+        c,
+        flags,
+        one_bit,
+        common_a,
+        gates,
+    }
+}
+
+// The kind table.
+pub fn kind_of(kind: u8) -> Kind
+    ensures { λ r. ⌜ r ≡ kindOf kind ⌝ }
+{
+    match kind {
+        1 => row(Use::Label, Use::Unused, Use::Unused, 0, false, true, 0),
+        2 => row(Use::Operand, Use::Label, Use::Unused, 0, true, false, 0),
+        3 => row(Use::Operand, Use::Unused, Use::Unused, 0, false, false, 1),
+        4 => row(Use::Operand, Use::Unused, Use::Unused, 0, false, false, 1),
+        5 => row(Use::Operand, Use::Operand, Use::Unused, 0, false, false, 1),
+        6 => row(Use::Operand, Use::Operand, Use::Unused, 0, false, false, 1),
+        7 => row(Use::Operand, Use::Operand, Use::Unused, 0, false, false, 1),
+        8 => row(Use::Operand, Use::Operand, Use::Operand, 0, false, true, 1),
+        9 => row(Use::Operand, Use::Operand, Use::Unused, 3, true, false, 1),
+        _ => Kind {
+            known: false,
+            a: Use::Unused,
+            b: Use::Unused,
+            c: Use::Unused,
+            flags: 0,
+            one_bit: false,
+            common_a: false,
+            gates: 0,
+        },
+    }
+}
+
+// The fields by number: 1 is a, 2 is b, 3 is c.
+pub fn field(r: Record, f: u32) -> u32
+    ensures { λ x. ⌜ x ≡ fieldOf r f ⌝ }
+{
+    match f {
+        1 => r.a,
+        2 => r.b,
+        3 => r.c,
+        _ => 0,
+    }
+}
+
+pub fn use_of(k: Kind, f: u32) -> Use
+    ensures { λ r. ⌜ r ≡ useOf k f ⌝ }
+{
+    match f {
+        1 => k.a,
+        2 => k.b,
+        3 => k.c,
+        _ => Use::Unused,
+    }
+}
+
+fn is_operand_use(u: Use) -> bool
+    ensures { λ r. ⌜ r ≡ isOperandUse u ⌝ }
+{
+    match u {
+        Use::Unused => false,
+        Use::Label => false,
+        Use::Operand => true,
+    }
+}
+
+// Whether a field holds a net.
+pub fn is_operand(r: Record, f: u32) -> bool
+    ensures { λ x. ⌜ x ≡ isOperand r f ⌝ }
+{
+    is_operand_use(use_of(kind_of(r.kind), f))
+}
+
+// Whether the record's level follows from that of the net in a field.
+pub fn is_comb_edge(r: Record, f: u32) -> bool
+    ensures { λ x. ⌜ x ≡ isCombEdge r f ⌝ }
+{
+    is_operand(r, f)
+}
+
+fn edge_of(d: Driver) -> Edge
+    ensures { λ r. ⌜ r ≡ edgeOf d ⌝ }
+{
+    match d {
+        Driver::Const(_) => Edge::Nowhere,
+        Driver::Cell(s) => Edge::To(s),
+    }
+}
+
+// Where the combinational edge of a field leads.
+pub fn edge_at(r: Record, f: u32) -> Edge
+    ensures { λ x. ⌜ x ≡ edgeAt r f ⌝ }
+{
+    if is_comb_edge(r, f) {
+        return edge_of(Net(field(r, f)).as_cell_index());
+    }
+    Edge::Nowhere
+}
+
+// The cell of a record of a known kind.
+pub fn cell_of(r: Record) -> Cell
+    ensures { λ x. ⌜ x ≡ cellOf r ⌝ }
+{
+    let kind = r.kind;
+    match kind {
+        1 => Cell::Input(r.a),
+        2 => Cell::Output(Net(r.a), r.b),
+        3 => Cell::Buf(Net(r.a)),
+        4 => Cell::Not(Net(r.a)),
+        5 => Cell::And(Net(r.a), Net(r.b)),
+        6 => Cell::Or(Net(r.a), Net(r.b)),
+        7 => Cell::Xor(Net(r.a), Net(r.b)),
+        8 => Cell::Mux(Net(r.a), Net(r.b), Net(r.c)),
+        _ => Cell::Aig(
+            ControlNet::from_net_invert(Net(r.a), r.flags % 2 == 1),
+            ControlNet::from_net_invert(Net(r.b), r.flags / 2 % 2 == 1),
+        ),
+    }
+}
+
+fn flags_of(p: ControlNet, q: ControlNet) -> u8
+    ensures { λ r. ⌜ r ≡ flagsOf p q ⌝ }
+{
+    if p.is_negative() {
+        if q.is_negative() {
+            return 3;
+        }
+        return 1;
+    }
+    if q.is_negative() {
+        return 2;
+    }
+    0
+}
+
+fn record_of(kind: u8, flags: u8, bit: u16, a: u32, b: u32, c: u32) -> Record
+    ensures { λ r. ⌜ r ≡ recordOf kind flags bit a b c ⌝ }
+{
+    Record {
+        kind,
+        flags,
+        bit,
+        a,
+        b,
+        c,
+    }
+}
+
+// The record of a cell that is a given bit of its cell.
+pub fn cell_record(bit: u16, c: Cell) -> Record
+    ensures { λ r. ⌜ r ≡ cellRecord bit c ⌝ }
+{
+    match c {
+        Cell::Input(l) => record_of(1, 0, bit, l, 0, 0),
+        Cell::Output(x, l) => record_of(2, 0, bit, x.0, l, 0),
+        Cell::Buf(x) => record_of(3, 0, bit, x.0, 0, 0),
+        Cell::Not(x) => record_of(4, 0, bit, x.0, 0, 0),
+        Cell::And(x, y) => record_of(5, 0, bit, x.0, y.0, 0),
+        Cell::Or(x, y) => record_of(6, 0, bit, x.0, y.0, 0),
+        Cell::Xor(x, y) => record_of(7, 0, bit, x.0, y.0, 0),
+        Cell::Mux(x, y, z) => record_of(8, 0, bit, x.0, y.0, z.0),
+        Cell::Aig(p, q) => record_of(9, flags_of(p, q), bit, p.net().0, q.net().0, 0),
+    }
+}

@@ -1,0 +1,146 @@
+-- From the tests of single records to the search for loops, and its answer as stages. Assumes nothing.
+use mathlib.Core.Path.{_≡_, refl, sym, ap, _∙_, subst}
+use mathlib.Core.Bool.{Bool, true, false, cond, not, _&&_, _||_}
+use mathlib.Core.Logic.{⊎-elim}
+use mathlib.Core.List.{List, [], _∷_, _++_}
+use Prim.Native.Nat.{ℕ, zero, suc, _+_, _/_, _%_, _<_, _≤_}
+use native.Mathlib.Omega.{arith}
+use native.Mathlib.Numerals.{add-one}
+use lib.Dec.{eqb, ltb}
+use lib.ListN.{length, drop}
+use borrow.Author.Tests.{ltb-true, lt-ltb, le-ltb, eq-eqb, ne-eqb}
+use Rattle.value.specs.declared.Slot.{Slot}
+use Rattle.value.specs.declared.Driver.{Driver}
+use Rattle.value.specs.declared.Driver.the-variants as driven
+use Rattle.value.specs.Value.{netAt, slotAt, driver}
+use Rattle.cell.specs.declared.Record.{Record}
+use Rattle.cell.specs.declared.Edge.{Edge}
+use Rattle.cell.specs.declared.Edge.the-variants.{To, Nowhere}
+use Rattle.cell.specs.Kinds.{fieldOf, isOperand, isCombEdge, edgeOf, edgeAt}
+use Rattle.cell.specs.Records.{recordsOf, recordIn}
+use Rattle.cell.proofs.Lists.{records-length}
+use Rattle.loops.specs.declared.Found.{Found}
+use Rattle.loops.specs.declared.Found.the-variants.{At, Nothing}
+use Rattle.loops.specs.Reach.{onLoop}
+use Rattle.loops.specs.Search.{Searchable, Finds}
+use Rattle.loops.proofs.Edges.{edge-field, edge-below}
+use Rattle.checking.specs.declared.Refusal.{Refusal}
+use Rattle.checking.specs.declared.Refusal.the-variants.{PartialRecord, TooManyRecords, ShortWork, Loop}
+use Rattle.checking.specs.declared.Verdict.{Verdict}
+use Rattle.checking.specs.declared.Verdict.the-variants.{Pass, Refused}
+use Rattle.checking.specs.Refusals.{Stage, firstOf, slotBySlot}
+use Rattle.checking.specs.Checking.{undriven, undrivenField, undrivenOperand, recordStages, loopStages, netlistStages, checkStages}
+use Rattle.checking.proofs.Stages.{first-refuses, first-passes, passed-exactly, later-decides, earlier-decides, slots-passed, no-stage, slots-none, slots-more, slots-refused}
+
+either-false : (a b : Bool) → a || b ≡ false → (a ≡ false) × (b ≡ false)
+either-false true b e = let z : _≡_ {A = ℕ} 0 1 = cc in absurd (omega arith)
+either-false false b e = (refl, e)
+
+not-nowhere : (x : Slot) → Nowhere ≡ To x → ⊥
+not-nowhere x e = let z : _≡_ {A = ℕ} 0 1 = cc in absurd (omega arith)
+
+module _ (rs : List Record) (r : Record) (f : ℕ) (x : Slot) where
+  -- the slot of an edge whose operand is not undriven has a record
+  tight : (b : Bool) (d : Driver) → cond b (edgeOf d) Nowhere ≡ To x → b && undriven rs d ≡ false → x .0 < length rs
+  tight false d e g = absurd (not-nowhere x e)
+  tight true (driven.Const t) e g = absurd (not-nowhere x e)
+  tight true (driven.Cell s) e g = go (ltb (s .0) (length rs)) refl
+    where
+      go : (b : Bool) → ltb (s .0) (length rs) ≡ b → x .0 < length rs
+      go true h = let q : s ≡ x = cc in subst (λ (y : Slot). y .0 < length rs) q (ltb-true _ _ h)
+      go false h =
+          let z : not (ltb (s .0) (length rs)) ≡ false = either-false (not (ltb (s .0) (length rs))) _ g .0 in
+          let w : _≡_ {A = ℕ} 0 1 = cc in absurd (omega arith)
+
+  field-inside : undrivenField rs r f ≡ false → edgeAt r f ≡ To x → x .0 < length rs
+  unfolding undrivenField edgeAt isCombEdge
+  field-inside g e = tight (isOperand r f) (driver (netAt (fieldOf r f))) e g
+
+  operand-inside : undrivenOperand rs r ≡ false → edgeAt r f ≡ To x → x .0 < length rs
+  unfolding undrivenOperand
+  operand-inside g e =
+      let g₁ : (undrivenField rs r 1 ≡ false) × (undrivenField rs r 2 || undrivenField rs r 3 ≡ false) = either-false (undrivenField rs r 1) _ g in
+      let g₂ : (undrivenField rs r 2 ≡ false) × (undrivenField rs r 3 ≡ false) = either-false (undrivenField rs r 2) _ (g₁ .1) in
+      let at : (k : ℕ) → undrivenField rs r k ≡ false → f ≡ k → x .0 < length rs =
+      λ k h q. field-inside (subst (λ (j : ℕ). undrivenField rs r j ≡ false) (sym q) h) e in
+      ⊎-elim (at 1 (g₁ .0)) (⊎-elim (at 2 (g₂ .0)) (at 3 (g₂ .1))) (edge-field r f x e)
+
+-- where the records pass, every edge leads to a record
+edges-inside : (rs : List Record) → firstOf (slotBySlot (recordStages rs) (length rs)) ≡ Pass → (s f : ℕ) (x : Slot) → edgeAt (recordIn rs s) f ≡ To x → x .0 < length rs
+unfolding recordStages
+edges-inside rs p s f x e =
+    operand-inside rs (recordIn rs s) f x
+    (passed-exactly (recordStages rs s) .0 (slots-passed (recordStages rs) (length rs) s p (edge-below rs s f x e)) 3 (omega arith)) e
+
+-- 8: the lowest slot on a loop, as the stages have it
+module _ (rs : List Record) where
+  free-below : (i : ℕ) → ((k : ℕ) → k < i → onLoop rs k ≡ false) → Pass ≡ firstOf (slotBySlot (loopStages rs) i)
+  unfolding loopStages
+  free-below zero h = slots-none (loopStages rs)
+  free-below (suc i) h =
+      subst (λ (k : ℕ). Pass ≡ firstOf (slotBySlot (loopStages rs) k)) (add-one i)
+      (slots-more (loopStages rs) i (free-below i (λ k l. h k (omega arith))) (sym (first-passes (onLoop rs i, Loop (slotAt i)) [] (h i (omega arith)) ∙ no-stage)))
+
+  lowest : (n : ℕ) (s : Slot) → s .0 < n → onLoop rs (s .0) ≡ true → ((k : ℕ) → k < s .0 → onLoop rs k ≡ false) → Refused (Loop s) ≡ firstOf (slotBySlot (loopStages rs) n)
+  unfolding loopStages
+  lowest n s l h b = slots-refused (loopStages rs) n (s .0) (Loop s) l (free-below (s .0) b) (sym (first-refuses (onLoop rs (s .0), Loop s) [] h))
+
+-- 4 to 7, then 8
+module _ (t : List ℕ) (n : ℕ) (e : n ≡ length t / 16) (v : Verdict) (v-is : v ≡ firstOf (slotBySlot (recordStages (recordsOf t)) n)) where
+  count : length (recordsOf t) ≡ n
+  count = records-length t ∙ sym e
+
+  by-count : (stages : ℕ → List Stage) (w : Verdict) → w ≡ firstOf (slotBySlot stages n) → w ≡ firstOf (slotBySlot stages (length (recordsOf t)))
+  by-count stages w f = subst (λ (k : ℕ). w ≡ firstOf (slotBySlot stages k)) (sym count) f
+
+  pub records-refuse : (x : Refusal) → v ≡ Refused x → Refused x ≡ firstOf (netlistStages (recordsOf t))
+  unfolding netlistStages
+  records-refuse x f = sym (earlier-decides (slotBySlot (recordStages (recordsOf t)) (length (recordsOf t))) _ x (sym (by-count (recordStages (recordsOf t)) (Refused x) (sym f ∙ v-is))))
+
+  module _ (f : v ≡ Pass) where
+    all-pass : firstOf (slotBySlot (recordStages (recordsOf t)) (length (recordsOf t))) ≡ Pass
+    all-pass = sym (by-count (recordStages (recordsOf t)) Pass (sym f ∙ v-is))
+
+    loops-decide : (w : Verdict) → w ≡ firstOf (slotBySlot (loopStages (recordsOf t)) (length (recordsOf t))) → w ≡ firstOf (netlistStages (recordsOf t))
+    unfolding netlistStages
+    loops-decide w g = g ∙ sym (later-decides (slotBySlot (recordStages (recordsOf t)) (length (recordsOf t))) _ all-pass)
+
+    pub searchable : (ws : List ℕ) → 16384 ≤ length ws → n ≤ 512 → Searchable (recordsOf t) n ws
+    searchable ws l m = record {
+      long = l;
+      count = count;
+      few = m;
+      inside = λ s g x q. subst (λ (k : ℕ). x .0 < k) count (edges-inside (recordsOf t) all-pass s g x q);
+    }
+
+    module _ (ws ws′ : List ℕ) (r : Found) (found : Finds (recordsOf t) ws ws′ r) where
+      pub loop-refuses : (s : Slot) → r ≡ At s → Refused (Loop s) ≡ firstOf (netlistStages (recordsOf t))
+      loop-refuses s g =
+          let h : (s .0 < length (recordsOf t)) × (onLoop (recordsOf t) (s .0) ≡ true) × ((i : ℕ) → i < s .0 → onLoop (recordsOf t) i ≡ false) = found .at s g in
+          loops-decide (Refused (Loop s)) (lowest (recordsOf t) (length (recordsOf t)) s (h .0) (h .1) (h .2))
+
+      pub loop-passes : r ≡ Nothing → Pass ≡ firstOf (netlistStages (recordsOf t))
+      loop-passes g = loops-decide Pass (free-below (recordsOf t) (length (recordsOf t)) (found .nothing g))
+
+      pub rest-kept : drop 16384 ws′ ≡ drop 16384 ws
+      rest-kept = found .rest
+
+-- 2 and 3, then the rest
+module _ (words : ℕ) (t : List ℕ) (long : 16384 ≤ words) where
+  past-work : firstOf (checkStages words t)
+      ≡ firstOf ((not (eqb (length t % 16) 0), PartialRecord) ∷ (ltb 512 (length t / 16), TooManyRecords) ∷ netlistStages (recordsOf t))
+  unfolding checkStages
+  past-work = first-passes (ltb words 16384, ShortWork) _ (le-ltb words 16384 long)
+
+  pub torn : (length t % 16 ≡ 0 → ⊥) → Refused PartialRecord ≡ firstOf (checkStages words t)
+  torn h = sym (past-work ∙ first-refuses (not (eqb (length t % 16) 0), PartialRecord) _ (ap not (ne-eqb (length t % 16) 0 h)))
+
+  module _ (whole : length t % 16 ≡ 0) where
+    past-torn : firstOf (checkStages words t) ≡ firstOf ((ltb 512 (length t / 16), TooManyRecords) ∷ netlistStages (recordsOf t))
+    past-torn = past-work ∙ first-passes (not (eqb (length t % 16) 0), PartialRecord) _ (ap not (eq-eqb (length t % 16) 0 whole))
+
+    pub too-many : 512 < length t / 16 → Refused TooManyRecords ≡ firstOf (checkStages words t)
+    too-many h = sym (past-torn ∙ first-refuses (ltb 512 (length t / 16), TooManyRecords) _ (lt-ltb 512 (length t / 16) h))
+
+    pub netlist-decides : length t / 16 ≤ 512 → (v : Verdict) → v ≡ firstOf (netlistStages (recordsOf t)) → v ≡ firstOf (checkStages words t)
+    netlist-decides h v f = f ∙ sym (past-torn ∙ first-passes (ltb 512 (length t / 16), TooManyRecords) _ (le-ltb 512 (length t / 16) h))

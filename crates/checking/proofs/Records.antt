@@ -1,0 +1,112 @@
+-- What the tests of one record and the loops over the records show. Assumes nothing.
+use mathlib.Core.Path.{_≡_, refl, sym, ap, ap₂, _∙_, subst}
+use mathlib.Core.Bool.{Bool, true, false, not, _||_}
+use mathlib.Core.List.{List, [], _∷_, _++_}
+use Prim.Native.Nat.{ℕ, zero, suc, _+_, _-_, _/_, _<_, _≤_}
+use native.Mathlib.Omega.{arith}
+use native.Mathlib.Numerals.{add-one}
+use lib.Dec.{eqb, ltb}
+use lib.ListN.{length, getD}
+use borrow.Author.Tests.{lt-ltb, le-ltb}
+use Rattle.value.specs.declared.Slot.{Slot}
+use Rattle.value.specs.declared.Driver.{Driver}
+use Rattle.value.specs.declared.Driver.the-variants as driven
+use Rattle.cell.specs.declared.Record.{Record}
+use Rattle.cell.specs.declared.Kind.{Kind}
+use Rattle.cell.specs.Kinds.{kindOf}
+use Rattle.cell.specs.Tabulate.{tabulate}
+use Rattle.cell.specs.Records.{recordAt, recordsOf, recordIn}
+use Rattle.cell.proofs.Laws.{gates-one}
+use Rattle.cell.proofs.Lists.{records-length, records-at}
+use Rattle.checking.specs.declared.Refusal.{Refusal}
+use Rattle.checking.specs.declared.Refusal.the-variants.{UnknownKind, ReservedField, BitOutOfSequence, UndrivenOperand}
+use Rattle.checking.specs.declared.Verdict.{Verdict}
+use Rattle.checking.specs.declared.Verdict.the-variants.{Pass, Refused}
+use Rattle.checking.specs.Refusals.{Stage, firstOf, slotBySlot}
+use Rattle.checking.specs.Checking.{unknownKind, reservedField, outOfSequence, bitOutOfSequence, undriven, undrivenOperand, recordStages, gateCount}
+use Rattle.checking.proofs.Stages.{first-refuses, first-passes, slots-more, slots-refused}
+
+-- an operand that names a slot past the last record, and one that names a record
+module _ (t : List ℕ) (n : ℕ) (d : Driver) (s : Slot) (e : n ≡ length t / 16) (q : d ≡ driven.Cell s) where
+  pub undriven-past : n ≤ s .0 → true ≡ undriven (recordsOf t) d
+  undriven-past h = rw (q, records-length t, ← e, le-ltb (s .0) n h)
+
+  pub undriven-kind : s .0 < n → (k : ℕ) → k ≡ recordAt t (s .0) .kind → eqb k 2 ≡ undriven (recordsOf t) d
+  undriven-kind h k f = rw (q, records-length t, ← e, lt-ltb (s .0) n h, f, records-at t (s .0) (omega arith))
+
+-- the four tests of a record, in their order
+module _ (t : List ℕ) (n : ℕ) (s : Slot) (e : n ≡ length t / 16) (h : s .0 < n) (r : Record) (q : r ≡ recordAt t (s .0)) where
+  stages-are : (p : Record) → p ≡ recordAt t (s .0 - 1)
+      → recordStages (recordsOf t) (s .0)
+      ≡ (unknownKind r, UnknownKind s) ∷ (reservedField r, ReservedField s) ∷ (outOfSequence (s .0) p r, BitOutOfSequence s) ∷ (undrivenOperand (recordsOf t) r, UndrivenOperand s) ∷ []
+  unfolding recordStages bitOutOfSequence
+  stages-are p f = rw (records-at t (s .0) (omega arith), records-at t (s .0 - 1) (omega arith), ← q, ← f)
+
+  module _ (x : Bool) (x-is : x ≡ unknownKind r) where
+    pub refuses-4 : x ≡ true → Refused (UnknownKind s) ≡ firstOf (recordStages (recordsOf t) (s .0))
+    refuses-4 f = sym (ap firstOf (stages-are (recordAt t (s .0 - 1)) refl) ∙ first-refuses (unknownKind r, UnknownKind s) _ (sym x-is ∙ f))
+
+    module _ (x-no : x ≡ false) (y : Bool) (y-is : y ≡ reservedField r) where
+      pub refuses-5 : y ≡ true → Refused (ReservedField s) ≡ firstOf (recordStages (recordsOf t) (s .0))
+      refuses-5 f =
+          sym (ap firstOf (stages-are (recordAt t (s .0 - 1)) refl) ∙ first-passes (unknownKind r, UnknownKind s) _ (sym x-is ∙ x-no)
+          ∙ first-refuses (reservedField r, ReservedField s) _ (sym y-is ∙ f))
+
+      module _ (y-no : y ≡ false) (p : Record) (p-is : p ≡ recordAt t (s .0 - 1)) (z : Bool) (z-is : z ≡ outOfSequence (s .0) p r) where
+        past-5 : firstOf (recordStages (recordsOf t) (s .0)) ≡ firstOf ((outOfSequence (s .0) p r, BitOutOfSequence s) ∷ (undrivenOperand (recordsOf t) r, UndrivenOperand s) ∷ [])
+        past-5 =
+            ap firstOf (stages-are p p-is) ∙ first-passes (unknownKind r, UnknownKind s) _ (sym x-is ∙ x-no)
+            ∙ first-passes (reservedField r, ReservedField s) _ (sym y-is ∙ y-no)
+
+        pub refuses-6 : z ≡ true → Refused (BitOutOfSequence s) ≡ firstOf (recordStages (recordsOf t) (s .0))
+        refuses-6 f = sym (past-5 ∙ first-refuses (outOfSequence (s .0) p r, BitOutOfSequence s) _ (sym z-is ∙ f))
+
+        module _ (z-no : z ≡ false) (w : Bool) (w-is : w ≡ undrivenOperand (recordsOf t) r) where
+          past-6 : firstOf (recordStages (recordsOf t) (s .0)) ≡ firstOf ((undrivenOperand (recordsOf t) r, UndrivenOperand s) ∷ [])
+          past-6 = past-5 ∙ first-passes (outOfSequence (s .0) p r, BitOutOfSequence s) _ (sym z-is ∙ z-no)
+
+          pub refuses-7 : w ≡ true → Refused (UndrivenOperand s) ≡ firstOf (recordStages (recordsOf t) (s .0))
+          refuses-7 f = sym (past-6 ∙ first-refuses (undrivenOperand (recordsOf t) r, UndrivenOperand s) [] (sym w-is ∙ f))
+
+          pub refuses-none : w ≡ false → Pass ≡ firstOf (recordStages (recordsOf t) (s .0))
+          unfolding firstOf
+          refuses-none f = sym (past-6 ∙ first-passes (undrivenOperand (recordsOf t) r, UndrivenOperand s) [] (sym w-is ∙ f))
+
+-- the loop over the records
+module _ (t : List ℕ) (n s : ℕ) (l : s < n) (e : Pass ≡ firstOf (slotBySlot (recordStages (recordsOf t)) s)) (v : Verdict) (v-is : v ≡ firstOf (recordStages (recordsOf t) s)) where
+  pub decided : (x : Refusal) → v ≡ Refused x → Refused x ≡ firstOf (slotBySlot (recordStages (recordsOf t)) n)
+  decided x f = slots-refused (recordStages (recordsOf t)) n s x l e (sym f ∙ v-is)
+
+  pub passed : v ≡ Pass → Pass ≡ firstOf (slotBySlot (recordStages (recordsOf t)) (s + 1))
+  passed f = slots-more (recordStages (recordsOf t)) s e (sym f ∙ v-is)
+
+pub all-passed : (t : List ℕ) (n s : ℕ) → s ≤ n → n ≤ s → Pass ≡ firstOf (slotBySlot (recordStages (recordsOf t)) s) → Pass ≡ firstOf (slotBySlot (recordStages (recordsOf t)) n)
+all-passed t n s l m e = subst (λ (k : ℕ). Pass ≡ firstOf (slotBySlot (recordStages (recordsOf t)) k)) (omega arith) e
+
+-- the gate count, a record more each turn
+count-more : (rs : List Record) (r : Record) → gateCount (rs ++ (r ∷ [])) ≡ gateCount rs + kindOf (r .kind) .gates
+unfolding gateCount
+count-more [] r = omega arith
+count-more (q ∷ rs) r = ap (λ (k : ℕ). kindOf (q .kind) .gates + k) (count-more rs r) ∙ omega arith
+
+pub record Counting (t : List ℕ) (n s sum : ℕ) : Type 0 where
+  pub upto : s ≤ n
+  pub few : sum ≤ s
+  pub counted : sum ≡ gateCount (tabulate (recordAt t) s)
+
+pub counts-none : (t : List ℕ) (n : ℕ) → Counting t n 0 0
+unfolding tabulate gateCount
+counts-none t n = record { upto = omega arith; few = omega arith; counted = refl }
+
+module _ (t : List ℕ) (n s sum : ℕ) (g : Counting t n s sum) where
+  pub counts-all : n ≡ length t / 16 → n ≤ s → sum ≡ gateCount (recordsOf t)
+  unfolding recordsOf
+  counts-all e h = g .counted ∙ ap (λ (k : ℕ). gateCount (tabulate (recordAt t) k)) (let u : s ≤ n = g .upto in omega arith)
+
+  pub counts-more : s < n → (k : ℕ) (y : Kind) → k ≡ recordAt t s .kind → y ≡ kindOf k → Counting t n (s + 1) (sum + y .gates)
+  unfolding tabulate
+  counts-more h k y e f = record {
+    upto = omega arith;
+    few = let u : sum ≤ s = g .few in omega (arith, gates-one k, ap (λ (x : Kind). x .gates) f);
+    counted = rw (add-one s, count-more) (ap₂ _+_ (g .counted) (ap (λ (x : Kind). x .gates) (f ∙ ap kindOf e)));
+  }

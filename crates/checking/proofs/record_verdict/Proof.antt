@@ -1,0 +1,72 @@
+use Rattle.checking.proofs.Records.{refuses-4, refuses-5, refuses-6, refuses-7, refuses-none}
+use borrow.Author.Needs.{needs}
+use Rattle.checking.proofs.record_verdict.Statement.{statement}
+use Rattle.checking.proofs.record_verdict.Tie as tie
+use Rattle.checking.proofs.record_verdict.Reads as reads
+use Rattle.checking.proofs.record_verdict.Lts as lts
+use Rattle.cell.proofs.record_at.Reads as record-at-reads
+use Rattle.checking.proofs.out_of_sequence.Reads as out-of-sequence-reads
+use Rattle.checking.proofs.undriven_operand.Reads as undriven-operand-reads
+use Rattle.checking.proofs.record_before.Reads as record-before-reads
+use Rattle.checking.proofs.reserved_field.Reads as reserved-field-reads
+use Rattle.checking.proofs.unknown_kind.Reads as unknown-kind-reads
+
+-- src/lib.rt:176:9
+record-at-requires : tie.Need-record-at-requires
+record-at-requires c κs = search needs
+
+-- src/lib.rt:177:8
+unknown-kind-requires : tie.Need-unknown-kind-requires
+unknown-kind-requires c κs = search needs
+
+-- src/lib.rt:178:9
+returns : tie.Need-returns
+returns c = search refuses-4
+
+-- src/lib.rt:180:8
+reserved-field-requires : tie.Need-reserved-field-requires
+reserved-field-requires c κs = search needs
+
+-- src/lib.rt:181:9
+returns-2 : tie.Need-returns-2
+returns-2 c = search refuses-5
+
+-- src/lib.rt:183:22
+record-before-requires : tie.Need-record-before-requires
+record-before-requires c κs = search needs
+
+-- src/lib.rt:183:8
+out-of-sequence-requires : tie.Need-out-of-sequence-requires
+out-of-sequence-requires c κs = search needs
+
+-- src/lib.rt:184:9
+returns-3 : tie.Need-returns-3
+returns-3 c = search refuses-6
+
+-- src/lib.rt:186:8
+undriven-operand-requires : tie.Need-undriven-operand-requires
+undriven-operand-requires c κs = search needs
+
+-- src/lib.rt:187:9
+returns-4 : tie.Need-returns-4
+returns-4 c = search refuses-7
+
+-- src/lib.rt:171:1
+returns-5 : tie.Need-returns-5
+returns-5 c = search refuses-none
+
+pub record-verdict-spec : {M : Type 1} → statement M
+record-verdict-spec =
+    tie.close
+    (tie.spec
+    record-at-requires
+    unknown-kind-requires
+    returns
+    reserved-field-requires
+    returns-2
+    record-before-requires
+    out-of-sequence-requires
+    returns-3
+    undriven-operand-requires
+    returns-4
+    returns-5)

@@ -1,0 +1,35 @@
+use Rattle.checking.proofs.Records.{undriven-past, undriven-kind}
+use borrow.Author.Needs.{needs}
+use Rattle.checking.proofs.undriven.Statement.{statement}
+use Rattle.checking.proofs.undriven.Tie as tie
+use Rattle.checking.proofs.undriven.Reads as reads
+use Rattle.checking.proofs.undriven.Lts as lts
+use Rattle.cell.proofs.kind_at.Reads as kind-at-reads
+
+-- src/lib.rt:126:29
+enum-told : tie.Need-enum-told
+enum-told c = search needs
+
+-- src/lib.rt:127:22
+enum-known-d : tie.Need-enum-known-d
+enum-known-d c = search needs
+
+-- src/lib.rt:129:17
+returns : tie.Need-returns
+returns c = search undriven-past
+
+-- src/lib.rt:131:13
+kind-at-requires : tie.Need-kind-at-requires
+kind-at-requires c κs = search needs
+
+-- src/lib.rt:121:1
+returns-2 : tie.Need-returns-2
+returns-2 c = search needs
+
+-- src/lib.rt:121:1
+returns-3 : tie.Need-returns-3
+returns-3 c = search undriven-kind
+
+pub undriven-spec : {M : Type 1} → statement M
+undriven-spec =
+    tie.close (tie.spec enum-told enum-known-d returns kind-at-requires returns-2 returns-3)

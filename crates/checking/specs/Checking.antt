@@ -1,0 +1,105 @@
+-- Checking (paper, "When a ticket is turned away", 1 to 8). Assumes nothing: these are definitions.
+use mathlib.Core.Bool.{Bool, false, not, _&&_, _||_}
+use mathlib.Core.List.{List, [], _∷_, _++_}
+use Prim.Native.Nat.{ℕ, _+_, _-_, _/_, _%_}
+use lib.Dec.{eqb, ltb}
+use lib.ListN.{length}
+use Rattle.value.specs.declared.Driver.{Driver}
+use Rattle.value.specs.declared.Driver.the-variants as driven
+use Rattle.value.specs.Value.{netAt, slotAt, driver}
+use Rattle.cell.specs.declared.Record.{Record}
+use Rattle.cell.specs.declared.Use.{Use}
+use Rattle.cell.specs.declared.Use.the-variants.{Unused, Label, Operand}
+use Rattle.cell.specs.Limits.{workWords, maxRecords}
+use Rattle.cell.specs.Kinds.{kindOf, fieldOf, isOperand}
+use Rattle.cell.specs.Records.{recordsOf, recordIn}
+use Rattle.loops.specs.Reach.{onLoop}
+use Rattle.checking.specs.declared.Refusal.the-variants.{ShortWork, PartialRecord, TooManyRecords, UnknownKind, ReservedField, BitOutOfSequence, UndrivenOperand, Loop}
+use Rattle.checking.specs.Refusals.{Stage, slotBySlot}
+
+-- 4: kind 0 or above 9
+unfoldable pub unknownKind : Record → Bool
+unknownKind r = not (kindOf (r .kind) .known)
+
+-- 5: an unused field or flag is not 0
+abbrev pub unusedNotZero : Use → ℕ → Bool
+unusedNotZero Unused x = not (eqb x 0)
+unusedNotZero Label x = false
+unusedNotZero Operand x = false
+
+unfoldable pub reservedField : Record → Bool
+reservedField r =
+    let k = kindOf (r .kind) in
+    unusedNotZero (k .a) (r .a) || (unusedNotZero (k .b) (r .b) || (unusedNotZero (k .c) (r .c) || ltb (k .flags) (r .flags)))
+
+-- 6: p is the bit before r in one cell. Bits of an input have one label, bits of a mux one select
+unfoldable pub follows : Record → Record → Bool
+follows p r = eqb (p .kind) (r .kind) && eqb (p .bit + 1) (r .bit) && (not (kindOf (r .kind) .«common_a») || eqb (p .a) (r .a))
+
+-- 6: the bit of r, the record of slot s, is not 0, and either its kind has one bit only, or there is no record before, or p, the record
+-- before, is not the bit before it in one cell
+unfoldable pub outOfSequence : ℕ → Record → Record → Bool
+outOfSequence s p r = not (eqb (r .bit) 0) && (kindOf (r .kind) .«one_bit» || (eqb s 0 || not (follows p r)))
+
+-- at slot 0 the record before is not looked at
+unfoldable pub bitOutOfSequence : List Record → ℕ → Bool
+bitOutOfSequence rs s = outOfSequence s (recordIn rs (s - 1)) (recordIn rs s)
+
+-- 7: a net is no constant and either names no slot of the ticket or names one whose kind byte is an output's
+abbrev pub outputKind : ℕ
+outputKind = 2
+
+abbrev pub undriven : List Record → Driver → Bool
+undriven rs (driven.Const t) = false
+undriven rs (driven.Cell s) = not (ltb (s .0) (length rs)) || eqb (recordIn rs (s .0) .kind) outputKind
+
+unfoldable pub undrivenField : List Record → Record → ℕ → Bool
+undrivenField rs r f = isOperand r f && undriven rs (driver (netAt (fieldOf r f)))
+
+unfoldable pub undrivenOperand : List Record → Record → Bool
+undrivenOperand rs r = undrivenField rs r 1 || (undrivenField rs r 2 || undrivenField rs r 3)
+
+-- the stages of one record
+abbrev pub kindStage : List Record → ℕ → Stage
+kindStage rs s = (unknownKind (recordIn rs s), UnknownKind (slotAt s))
+
+abbrev pub fieldStage : List Record → ℕ → Stage
+fieldStage rs s = (reservedField (recordIn rs s), ReservedField (slotAt s))
+
+abbrev pub bitStage : List Record → ℕ → Stage
+bitStage rs s = (bitOutOfSequence rs s, BitOutOfSequence (slotAt s))
+
+abbrev pub operandStage : List Record → ℕ → Stage
+operandStage rs s = (undrivenOperand rs (recordIn rs s), UndrivenOperand (slotAt s))
+
+abbrev pub loopStage : List Record → ℕ → Stage
+loopStage rs s = (onLoop rs s, Loop (slotAt s))
+
+-- the stages of a whole ticket, and of the number of words in the work slice
+abbrev pub workStage : ℕ → Stage
+workStage words = (ltb words workWords, ShortWork)
+
+abbrev pub lengthStage : List ℕ → Stage
+lengthStage t = (not (eqb (length t % 16) 0), PartialRecord)
+
+abbrev pub sizeStage : List ℕ → Stage
+sizeStage t = (ltb maxRecords (length t / 16), TooManyRecords)
+
+-- 4 to 7, record by record, then 8
+unfoldable pub recordStages : List Record → ℕ → List Stage
+recordStages rs s = kindStage rs s ∷ fieldStage rs s ∷ bitStage rs s ∷ operandStage rs s ∷ []
+
+unfoldable pub loopStages : List Record → ℕ → List Stage
+loopStages rs s = loopStage rs s ∷ []
+
+unfoldable pub netlistStages : List Record → List Stage
+netlistStages rs = slotBySlot (recordStages rs) (length rs) ++ slotBySlot (loopStages rs) (length rs)
+
+-- 1 to 8
+unfoldable pub checkStages : ℕ → List ℕ → List Stage
+checkStages words t = workStage words ∷ lengthStage t ∷ sizeStage t ∷ netlistStages (recordsOf t)
+
+-- what each record adds by the kind table: 1, and 0 for inputs and outputs
+unfoldable pub gateCount : List Record → ℕ
+gateCount [] = 0
+gateCount (r ∷ rs) = kindOf (r .kind) .gates + gateCount rs

@@ -1,0 +1,4 @@
+pub mod Reach
+pub mod Search
+pub mod Counted
+pub mod Walk
