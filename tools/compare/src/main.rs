@@ -1,0 +1,86 @@
+//! Compares the static library with the oracle on drawn tickets.
+
+mod guarded;
+mod library;
+
+use std::process::ExitCode;
+
+use library::Bench;
+use oracle::calls::{Answer, CALLS, Call, answer};
+use oracle::draw::Draw;
+use oracle::list::{self, ASSIGNMENTS, Case};
+use oracle::{lister, ticket};
+
+const USAGE: &str = "usage: compare [--calls check,compact,merge,rewrite,levels] SEED COUNT";
+
+fn main() -> ExitCode {
+    let arguments: Vec<String> = std::env::args().skip(1).collect();
+    let arguments: Vec<&str> = arguments.iter().map(String::as_str).collect();
+    let (calls, rest): (Option<Vec<Call>>, &[&str]) = match arguments[..] {
+        ["--calls", names, ref rest @ ..] => (names.split(',').map(Call::from_name).collect(), rest),
+        ref rest => (Some(CALLS.into_iter().filter(|&call| library::has(call)).collect()), rest),
+    };
+    let (Some(calls), [seed, count]) = (calls, rest) else { return usage() };
+    let (Ok(seed), Ok(count)) = (seed.parse(), count.parse()) else { return usage() };
+    if let Some(missing) = calls.iter().find(|&&call| !library::has(call)) {
+        eprintln!("the library has no {}", missing.name());
+        return ExitCode::FAILURE;
+    }
+    compare(&calls, seed, count)
+}
+
+fn usage() -> ExitCode {
+    eprintln!("{USAGE}");
+    ExitCode::FAILURE
+}
+
+fn compare(calls: &[Call], seed: u64, count: u64) -> ExitCode {
+    let mut draw = Draw(seed);
+    let mut accepted = vec![0_u64; calls.len()];
+    let mut run = vec![0_u64; calls.len()];
+    for index in 0..count {
+        let case = list::drawn(&mut draw);
+        for (place, &call) in calls.iter().enumerate() {
+            let assignments = if call == Call::Levels { ASSIGNMENTS } else { 1 };
+            for assignment in 0..assignments {
+                let Some(refusal) = agree(&case, call, assignment, &mut draw) else {
+                    eprintln!("seed {seed}, ticket {index}");
+                    return ExitCode::FAILURE;
+                };
+                run[place] += 1;
+                accepted[place] += u64::from(refusal == 0);
+            }
+        }
+    }
+    print!("{count} tickets, no difference:");
+    for (call, (run, accepted)) in calls.iter().zip(run.iter().zip(accepted)) {
+        print!(" {} {run} ({accepted} accepted)", call.name());
+    }
+    println!();
+    ExitCode::SUCCESS
+}
+
+/// The refusal number, if library and oracle agree on one call; else the difference is listed.
+fn agree(case: &Case, call: Call, assignment: usize, draw: &mut Draw) -> Option<u32> {
+    let lent = case.lent(call, assignment);
+    let expected = answer(call, &case.ticket, lent);
+    let mut bench = Bench::new(&case.ticket, lent, draw);
+    let refusal = bench.run(call);
+    let Some(fault) = bench.fault(refusal, &expected) else { return Some(refusal) };
+    let Answer { refusal: number, place, count, extra, ref reply } = expected;
+    println!("{} differs: {fault}", call.name());
+    println!("work {} words, reply {} bytes, levels {:?}", lent.work_words, lent.reply_bytes, lent.levels);
+    println!("ticket of {} bytes\n{}", case.ticket.len(), lister::lines(&ticket::records(&case.ticket)));
+    println!("oracle: refusal {number}, place {place}, count {count}, extra {extra}\n{}", listing(call, reply));
+    let got = bench.answer_words();
+    let written = bench.reply().len().min(got[1] as usize);
+    println!("library: refusal {refusal}, answer {got:?}\n{}", listing(call, &bench.reply()[..written]));
+    None
+}
+
+fn listing(call: Call, reply: &[u8]) -> String {
+    match call {
+        Call::Levels => format!("{reply:?}\n"),
+        _ => lister::lines(&ticket::records(reply)),
+    }
+}

@@ -1,0 +1,25 @@
+//! The lister's lines.
+
+use crate::calls::{Answer, Call, Lent, answer};
+use crate::ticket::{self, Record};
+
+/// The lister reads this much and nothing after it.
+pub const MOST_READ: usize = 8_208;
+
+pub fn line(record: &Record) -> String {
+    let Record { kind, flags, bit, a, b, c } = record;
+    format!("{kind} {flags} {bit} {a} {b} {c}")
+}
+
+pub fn lines(records: &[Record]) -> String {
+    records.iter().enumerate().map(|(slot, record)| format!("{slot} {}\n", line(record))).collect()
+}
+
+pub fn list(given: &[u8]) -> String {
+    let ticket = &given[..given.len().min(MOST_READ)];
+    let Answer { refusal, place, reply, .. } = answer(Call::Rewrite, ticket, Lent::AMPLE);
+    match refusal {
+        0 => lines(&ticket::records(&reply)),
+        _ => format!("refused {refusal} {place}\n"),
+    }
+}
