@@ -1,0 +1,1 @@
+// What checking's acceptance gives to the laws of orders and rewriting: there is no code here.

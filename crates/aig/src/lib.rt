@@ -1,0 +1,1 @@
+// `SimpleAigOpt`, after generic/src/rewrite/aig.rs.

@@ -1,0 +1,1 @@
+// Laws of the rules: there is no code here.

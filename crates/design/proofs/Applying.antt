@@ -1,0 +1,172 @@
+-- Replacements put into the slots. Assumes nothing.
+use mathlib.Core.Path.{_≡_, refl, sym, ap, ap₂, _∙_, subst}
+use mathlib.Core.Bool.{Bool, false, not, _||_}
+use mathlib.Core.List.{List, map}
+use Prim.Native.Nat.{ℕ, suc, _+_, _*_, _<_, _≤_}
+use native.Mathlib.Omega.{arith}
+use native.Mathlib.Numerals.{add-one}
+use native.Mathlib.Decide.{decLt}
+use lib.ListN.{length}
+use Rattle.value.specs.declared.Net.{Net}
+use Rattle.value.specs.declared.ControlNet.the-variants.{Pos, Neg}
+use Rattle.value.specs.Value.{eqNet}
+use Rattle.cell.specs.declared.Record.{Record}
+use Rattle.cell.specs.declared.Cell.{Cell}
+use Rattle.cell.specs.declared.Cell.the-variants.{Input, Output, Buf, Not, And, Or, Xor, Mux, Aig}
+use Rattle.cell.specs.Tabulate.{tabulate}
+use Rattle.cell.specs.Records.{cellOf, cellRecord}
+use Rattle.cell.proofs.RoundTrips.{cell-back}
+use Rattle.netlist.specs.Areas.{wordRecord, storeWords, recordsIn, Within}
+use Rattle.netlist.specs.Shape.{visit, visitMut}
+use Rattle.netlist.specs.Netlist.{Netlist, netlistOf, slots, anyOf}
+use Rattle.netlist.proofs.Frames.{within-none, within-then, within-wider, tabulate-same}
+use Rattle.netlist.proofs.Areas.{Sized, store-within, stored-same, stored-other}
+use Rattle.design.specs.declared.Renaming.the-variants.{Replaced}
+use Rattle.design.specs.Queue.{mapNetNew, applied, didChange, eqCell}
+use Rattle.design.specs.Words.{netlistIn, replacedIn, designIn, appliedIn, renamedRecord, changesIn, Applies}
+use Rattle.design.proofs.Lists.{any-more, any-table, map-table}
+use Rattle.design.proofs.Words.{replaced-kept}
+use Rattle.design.proofs.Replacing.{changed-is}
+
+-- the record of a cell fits into its words
+sized : (bit : ℕ) → bit < 65536 → (c : Cell) → Sized (cellRecord bit c)
+unfolding cellRecord
+sized bit h (Input l) = record { kind = omega arith; flags = omega arith; bit = h }
+sized bit h (Output a l) = record { kind = omega arith; flags = omega arith; bit = h }
+sized bit h (Buf a) = record { kind = omega arith; flags = omega arith; bit = h }
+sized bit h (Not a) = record { kind = omega arith; flags = omega arith; bit = h }
+sized bit h (And a b) = record { kind = omega arith; flags = omega arith; bit = h }
+sized bit h (Or a b) = record { kind = omega arith; flags = omega arith; bit = h }
+sized bit h (Xor a b) = record { kind = omega arith; flags = omega arith; bit = h }
+sized bit h (Mux a b c) = record { kind = omega arith; flags = omega arith; bit = h }
+sized bit h (Aig (Pos a) (Pos b)) = record { kind = omega arith; flags = omega arith; bit = h }
+sized bit h (Aig (Pos a) (Neg b)) = record { kind = omega arith; flags = omega arith; bit = h }
+sized bit h (Aig (Neg a) (Pos b)) = record { kind = omega arith; flags = omega arith; bit = h }
+sized bit h (Aig (Neg a) (Neg b)) = record { kind = omega arith; flags = omega arith; bit = h }
+
+bit-kept : (bit : ℕ) (c : Cell) → cellRecord bit c .bit ≡ bit
+unfolding cellRecord
+bit-kept bit (Input l) = refl
+bit-kept bit (Output a l) = refl
+bit-kept bit (Buf a) = refl
+bit-kept bit (Not a) = refl
+bit-kept bit (And a b) = refl
+bit-kept bit (Or a b) = refl
+bit-kept bit (Xor a b) = refl
+bit-kept bit (Mux a b c) = refl
+bit-kept bit (Aig p q) = refl
+
+-- one slot
+module _ (n s : ℕ) (ws ws′ : List ℕ) (old : Cell) (old-is : old ≡ cellOf (wordRecord ws s)) (r : Record) (r-is : r ≡ renamedRecord Replaced n ws s) where
+  new-cell : cellOf r ≡ visitMut (mapNetNew (replacedIn n ws)) old
+  unfolding renamedRecord
+  new-cell = ap cellOf r-is ∙ cell-back (wordRecord ws s .bit) _ ∙ ap (visitMut (mapNetNew (replacedIn n ws))) (sym old-is)
+
+  old-bit : r .bit ≡ wordRecord ws s .bit
+  unfolding renamedRecord
+  old-bit = ap (λ (q : Record). q .bit) r-is ∙ bit-kept (wordRecord ws s .bit) _
+
+  pub applies : ws′ ≡ storeWords ws s r → (new : Cell) → new ≡ cellOf r → (b : Bool) → b ≡ eqCell new old → r .bit < 65536 → Applies n s ws ws′ (not b)
+  unfolding changesIn
+  applies stored new new-is b b-is h = record {
+    stored = stored ∙ ap (storeWords ws s) r-is;
+    bit = omega (arith, old-bit);
+    changed =
+        ap not (b-is ∙ ap (λ (c : Cell). eqCell c old) (new-is ∙ new-cell)) ∙ sym (changed-is (mapNetNew (replacedIn n ws)) old)
+        ∙ ap (λ (c : Cell). anyOf (λ x. not (eqNet (mapNetNew (replacedIn n ws) x) x)) (visit c)) old-is;
+  }
+
+-- slot after slot
+pub record Applying (n : ℕ) (ws₀ ws : List ℕ) (changed : Bool) (s : ℕ) : Type 0 where
+  pub upto : s ≤ n
+  pub few : n ≤ 1024
+  pub long : 16384 ≤ length ws₀
+  pub done : (u : ℕ) → u < s → wordRecord ws u ≡ renamedRecord Replaced n ws₀ u
+  pub left : (u : ℕ) → s ≤ u → wordRecord ws u ≡ wordRecord ws₀ u
+  pub flag : changed ≡ anyOf (changesIn n ws₀) (slots s)
+  pub frame : Within 0 4096 ws₀ ws
+
+pub applying-none : (n : ℕ) (ws : List ℕ) → n ≤ 1024 → 16384 ≤ length ws → Applying n ws ws false 0
+unfolding tabulate anyOf
+applying-none n ws few long = record {
+  upto = omega arith;
+  few = few;
+  long = long;
+  done = λ u l. absurd (omega arith);
+  left = λ u l. refl;
+  flag = refl;
+  frame = within-none 0 4096 ws;
+}
+
+module _ (n : ℕ) (ws₀ ws : List ℕ) (changed : Bool) (s : ℕ) (g : Applying n ws₀ ws changed s) where
+  same-record : renamedRecord Replaced n ws s ≡ renamedRecord Replaced n ws₀ s
+  unfolding renamedRecord
+  same-record = rw (g .left s (omega arith), replaced-kept n ws₀ ws (g .frame))
+
+  same-change : changesIn n ws s ≡ changesIn n ws₀ s
+  unfolding changesIn
+  same-change = rw (g .left s (omega arith), replaced-kept n ws₀ ws (g .frame))
+
+  module _ (ws′ : List ℕ) (more : Bool) (a : Applies n s ws ws′ more) (l : s < n) where
+    stored-here : wordRecord ws′ s ≡ renamedRecord Replaced n ws₀ s
+    unfolding renamedRecord
+    stored-here =
+        let few : n ≤ 1024 = g .few in
+        let long : 16384 ≤ length ws₀ = g .long in
+        ap (λ (vs : List ℕ). wordRecord vs s) (a .stored)
+        ∙ stored-same ws s (renamedRecord Replaced n ws s) (omega (arith, g .frame .same)) (sized (wordRecord ws s .bit) (a .bit) _) ∙ same-record
+
+    stored-there : (u : ℕ) → (u ≡ s → ⊥) → wordRecord ws′ u ≡ wordRecord ws u
+    stored-there u h = ap (λ (vs : List ℕ). wordRecord vs u) (a .stored) ∙ stored-other ws s (renamedRecord Replaced n ws s) u h
+
+    pub applying-more : (changed′ : Bool) → changed′ ≡ changed || more → Applying n ws₀ ws′ changed′ (s + 1)
+    unfolding tabulate
+    applying-more changed′ e = record {
+      upto = omega arith;
+      few = g .few;
+      long = g .long;
+      done = λ u m. go u m (decLt u s);
+      left = λ u m. stored-there u (λ q. absurd (omega arith)) ∙ g .left u (omega arith);
+      flag = rw (add-one s) (e ∙ ap₂ _||_ (g .flag) (a .changed ∙ same-change) ∙ sym (any-more (changesIn n ws₀) (slots s) s));
+      frame =
+          let few : n ≤ 1024 = g .few in
+          within-then 0 4096 ws₀ ws ws′ (g .frame)
+          (subst (λ (vs : List ℕ). Within 0 4096 ws vs) (sym (a .stored))
+          (within-wider (s * 4) (s * 4 + 4) 0 4096 ws (storeWords ws s (renamedRecord Replaced n ws s)) (omega arith) (omega arith) (store-within ws s (renamedRecord Replaced n ws s))));
+    }
+      where
+        go : (u : ℕ) → u < s + 1 → Dec (u < s) → wordRecord ws′ u ≡ renamedRecord Replaced n ws₀ u
+        go u m (yes k) = stored-there u (λ q. absurd (omega arith)) ∙ g .done u k
+        go u m (no k) = let q : s ≡ u = omega arith in subst (λ (v : ℕ). wordRecord ws′ v ≡ renamedRecord Replaced n ws₀ v) q stored-here
+
+  module _ (end : n ≤ s) where
+    new-cells : map cellOf (recordsIn n ws) ≡ map (visitMut (mapNetNew (replacedIn n ws₀))) (map cellOf (recordsIn n ws₀))
+    unfolding recordsIn renamedRecord
+    new-cells =
+        let f : Cell → Cell = visitMut (mapNetNew (replacedIn n ws₀)) in
+        map-table (wordRecord ws) cellOf n
+        ∙ tabulate-same (λ u. cellOf (wordRecord ws u)) (λ u. f (cellOf (wordRecord ws₀ u))) n
+        (λ u l. ap cellOf (g .done u (omega arith)) ∙ cell-back (wordRecord ws₀ u .bit) _)
+        ∙ sym (ap (map f) (map-table (wordRecord ws₀) cellOf n) ∙ map-table (λ u. cellOf (wordRecord ws₀ u)) f n)
+
+    old-bits : map (λ (r : Record). r .bit) (recordsIn n ws) ≡ map (λ (r : Record). r .bit) (recordsIn n ws₀)
+    unfolding recordsIn renamedRecord
+    old-bits =
+        let b : Record → ℕ = λ r. r .bit in
+        map-table (wordRecord ws) b n
+        ∙ tabulate-same (λ u. b (wordRecord ws u)) (λ u. b (wordRecord ws₀ u)) n
+        (λ u l. ap b (g .done u (omega arith)) ∙ bit-kept (wordRecord ws₀ u .bit) _) ∙ sym (map-table (wordRecord ws₀) b n)
+
+    pub applied-all : netlistIn n ws ≡ appliedIn n ws₀
+    unfolding netlistOf appliedIn applied designIn
+    applied-all = ap₂ (λ (cs : List Cell) (bs : List ℕ). record { cells = cs; bits = bs }) new-cells old-bits
+
+    pub applied-flag : changed ≡ didChange (designIn n ws₀)
+    unfolding changesIn didChange designIn netlistOf recordsIn
+    applied-flag =
+        let p : Cell → Bool = λ c. anyOf (λ x. not (eqNet (mapNetNew (replacedIn n ws₀) x) x)) (visit c) in
+        g .flag ∙ ap (λ (k : ℕ). anyOf (changesIn n ws₀) (slots k)) (let e : s ≡ n = let u : s ≤ n = g .upto in omega arith in e)
+        ∙ sym (ap (anyOf p) (map-table (wordRecord ws₀) cellOf n) ∙ any-table (λ u. cellOf (wordRecord ws₀ u)) p n)
+
+  pub applied-frame : Within 0 4096 ws₀ ws
+  applied-frame = g .frame

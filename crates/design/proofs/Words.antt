@@ -1,0 +1,66 @@
+-- The netlist and the areas in the words, slot by slot. Assumes nothing.
+use mathlib.Core.Path.{_≡_, refl, sym, ap, ap₂, _∙_, subst}
+use mathlib.Core.Bool.{Bool, false, not}
+use mathlib.Core.List.{List, map}
+use Prim.Native.Nat.{ℕ, _+_, _*_, _<_, _≤_}
+use native.Mathlib.Omega.{arith}
+use lib.Dec.{eqb}
+use lib.ListN.{length, getD, length-map, List·getD-eq-default}
+use Rattle.value.specs.declared.Net.{Net}
+use Rattle.value.specs.Value.{netAt}
+use Rattle.cell.specs.declared.Record.{Record}
+use Rattle.cell.specs.Tabulate.{tabulate}
+use Rattle.cell.specs.Records.{recordOf, cellOf}
+use Rattle.cell.proofs.Lists.{tabulate-length, tabulate-at}
+use Rattle.netlist.specs.Areas.{wordRecord, recordsIn, marksIn, Within}
+use Rattle.netlist.specs.Netlist.{Netlist, cellIn, netlistOf}
+use Rattle.netlist.proofs.Frames.{tabulate-same}
+use Rattle.order.proofs.Bits.{cells-length as records-cells-length, cell-at as records-cell-at}
+use Rattle.design.specs.Words.{netlistIn, replacedIn}
+use Rattle.design.proofs.Lists.{map-at}
+
+module _ (n : ℕ) (ws : List ℕ) where
+  count : length (recordsIn n ws) ≡ n
+  unfolding recordsIn
+  count = tabulate-length (wordRecord ws) n
+
+  pub cells-length : length (netlistIn n ws .cells) ≡ n
+  unfolding netlistOf
+  cells-length = records-cells-length n ws
+
+  pub bits-length : length (netlistIn n ws .bits) ≡ n
+  unfolding netlistOf
+  bits-length = length-map (recordsIn n ws) (λ (r : Record). r .bit) ∙ count
+
+  module _ (s : ℕ) (h : s < n) where
+    record-at : getD (recordsIn n ws) s (recordOf 0 0 0 0 0 0) ≡ wordRecord ws s
+    unfolding recordsIn
+    record-at = tabulate-at (wordRecord ws) n (recordOf 0 0 0 0 0 0) s h
+
+    pub bit-at : getD (netlistIn n ws .bits) s 0 ≡ wordRecord ws s .bit
+    unfolding netlistOf
+    bit-at = map-at (λ (r : Record). r .bit) (recordsIn n ws) s 0 (recordOf 0 0 0 0 0 0) (omega (arith, count)) ∙ ap (λ (r : Record). r .bit) record-at
+
+    pub cell-at : cellIn (netlistIn n ws .cells) s ≡ cellOf (wordRecord ws s)
+    unfolding netlistOf
+    cell-at = records-cell-at n ws s h
+
+    pub mark-at : (base : ℕ) → getD (marksIn base n ws) s false ≡ not (eqb (getD ws (base + s) 0) 0)
+    unfolding marksIn
+    mark-at base = tabulate-at (λ i. not (eqb (getD ws (base + i) 0) 0)) n false s h
+
+    pub replaced-at : (x : Net) → getD (replacedIn n ws) s x ≡ netAt (getD ws (6144 + s) 0)
+    unfolding replacedIn
+    replaced-at x = tabulate-at (λ i. netAt (getD ws (6144 + i) 0)) n x s h
+
+  pub replaced-length : length (replacedIn n ws) ≡ n
+  unfolding replacedIn
+  replaced-length = tabulate-length (λ i. netAt (getD ws (6144 + i) 0)) n
+
+  pub replaced-past : (s : ℕ) (x : Net) → n ≤ s → getD (replacedIn n ws) s x ≡ x
+  replaced-past s x h = List·getD-eq-default (replacedIn n ws) x (omega (arith, replaced-length))
+
+-- stores into the slots leave the replaced nets alone
+pub replaced-kept : (n : ℕ) (ws ws′ : List ℕ) → Within 0 4096 ws ws′ → replacedIn n ws′ ≡ replacedIn n ws
+unfolding replacedIn
+replaced-kept n ws ws′ p = tabulate-same (λ i. netAt (getD ws′ (6144 + i) 0)) (λ i. netAt (getD ws (6144 + i) 0)) n (λ i l. ap netAt (p .after (6144 + i) (omega arith)))

@@ -1,0 +1,36 @@
+use Rattle.design.specs.Words.{isRoot}
+use borrow.Author.Needs.{needs}
+use Rattle.design.proofs.compact.is_root.Statement.{statement}
+use Rattle.design.proofs.compact.is_root.Tie as tie
+use Rattle.design.proofs.compact.is_root.Reads as reads
+use Rattle.design.proofs.compact.is_root.Lts as lts
+use Rattle.cell.proofs.cell_of.Reads as cell-of-reads
+use Rattle.design.proofs.compact.has_effects.Reads as has-effects-reads
+use Rattle.logic.proofs.both.Reads as both-reads
+use Rattle.netlist.proofs.record_in.Reads as record-in-reads
+
+-- src/compact.rt:40:9
+record-in-requires : tie.Need-record-in-requires
+record-in-requires c κs = search needs
+
+-- src/compact.rt:41:41
+cell-of-requires : tie.Need-cell-of-requires
+cell-of-requires c κs = search needs
+
+-- src/compact.rt:41:29
+has-effects-requires : tie.Need-has-effects-requires
+has-effects-requires c κs = search needs
+
+-- src/compact.rt:41:5
+both-requires : tie.Need-both-requires
+both-requires c κs = search needs
+
+-- src/compact.rt:37:1
+returns : tie.Need-returns
+unfolding isRoot
+returns c = cc
+
+pub is-root-spec : {M : Type 1} → statement M
+is-root-spec =
+    tie.close
+    (tie.spec record-in-requires cell-of-requires has-effects-requires both-requires returns)

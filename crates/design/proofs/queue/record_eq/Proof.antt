@@ -1,0 +1,32 @@
+use Rattle.design.specs.Queue.{eqRecord}
+use borrow.Author.Needs.{needs}
+use Rattle.design.proofs.queue.record_eq.Statement.{statement}
+use Rattle.design.proofs.queue.record_eq.Tie as tie
+use Rattle.design.proofs.queue.record_eq.Reads as reads
+use Rattle.design.proofs.queue.record_eq.Lts as lts
+use Rattle.logic.proofs.both.Reads as both-reads
+
+-- src/queue.rt:79:9
+both-requires : tie.Need-both-requires
+both-requires c κs = search needs
+
+-- src/queue.rt:80:9
+both-requires-2 : tie.Need-both-requires-2
+both-requires-2 c κs = search needs
+
+-- src/queue.rt:81:17
+both-requires-3 : tie.Need-both-requires-3
+both-requires-3 c κs = search needs
+
+-- src/queue.rt:81:5
+both-requires-4 : tie.Need-both-requires-4
+both-requires-4 c κs = search needs
+
+-- src/queue.rt:76:1
+returns : tie.Need-returns
+unfolding eqRecord
+returns c = cc
+
+pub record-eq-spec : {M : Type 1} → statement M
+record-eq-spec =
+    tie.close (tie.spec both-requires both-requires-2 both-requires-3 both-requires-4 returns)

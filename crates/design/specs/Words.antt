@@ -1,0 +1,77 @@
+-- The change queue and the marks of `compact` in the words of the work slice. Public contracts do not cite this file: at return the words
+-- are 0. Assumes nothing: these are definitions.
+use mathlib.Core.Path.{_≡_}
+use mathlib.Core.Bool.{Bool, cond, not, _&&_}
+use mathlib.Core.List.{List, [], _∷_}
+use Prim.Native.Nat.{ℕ, _+_, _<_}
+use lib.Dec.{eqb}
+use lib.ListN.{getD}
+use Rattle.value.specs.declared.Net.{Net}
+use Rattle.value.specs.Value.{netAt, eqNet}
+use Rattle.cell.specs.Tabulate.{tabulate}
+use Rattle.cell.specs.declared.Record.{Record}
+use Rattle.cell.specs.Records.{cellOf, cellRecord, bytesOf}
+use Rattle.netlist.specs.Areas.{wordRecord, storeWords, recordsIn, marksIn, visitedAt, replacedAt, Within}
+use Rattle.netlist.specs.Shape.{visit, visitMut, hasEffects}
+use Rattle.netlist.specs.Netlist.{Netlist, netlistOf, anyOf}
+use Rattle.design.specs.declared.Renaming.{Renaming}
+use Rattle.design.specs.declared.Renaming.the-variants.{Replaced, Renumbered}
+use Rattle.design.specs.Queue.{Design, mapNetNew, applied}
+use Rattle.design.specs.Compact.{keep, isKept, countKept, netMap}
+
+-- the netlist of the first n slots, and with it the replaced nets
+abbrev pub netlistIn : ℕ → List ℕ → Netlist
+netlistIn n ws = netlistOf (recordsIn n ws)
+
+unfoldable pub replacedIn : ℕ → List ℕ → List Net
+replacedIn n ws = tabulate (λ s. netAt (getD ws (replacedAt + s) 0)) n
+
+unfoldable pub designIn : ℕ → List ℕ → Design
+designIn n ws = record { cells = netlistIn n ws .cells; replaced = replacedIn n ws }
+
+-- what `apply` leaves in the slots
+unfoldable pub appliedIn : ℕ → List ℕ → Netlist
+appliedIn n ws = record { cells = applied (designIn n ws); bits = netlistIn n ws .bits }
+
+-- a slot where an input or an output starts, and it as a list of one
+unfoldable pub isRoot : List ℕ → ℕ → Bool
+isRoot ws s = eqb (wordRecord ws s .bit) 0 && hasEffects (cellOf (wordRecord ws s))
+
+unfoldable pub rootAt : List ℕ → ℕ → List ℕ
+rootAt ws s = cond (isRoot ws s) (s ∷ []) []
+
+-- the marks are set as `keep` has them
+pub record Keeps (n : ℕ) (ws ws′ : List ℕ) : Type 0 where
+  pub records : recordsIn n ws′ ≡ recordsIn n ws
+  pub marks : marksIn visitedAt n ws′ ≡ keep (netlistIn n ws′)
+  pub frame : Within visitedAt replacedAt ws ws′
+
+-- whether a slot is kept by the marks, and how many of the first s slots are
+abbrev pub keptAt : ℕ → List ℕ → ℕ → Bool
+keptAt n ws s = isKept (netlistIn n ws .bits) (marksIn visitedAt n ws) s
+
+abbrev pub keptIn : ℕ → List ℕ → ℕ → ℕ
+keptIn n ws s = countKept (netlistIn n ws .bits) (marksIn visitedAt n ws) s
+
+-- the functions that `visit_mut` is called with
+abbrev pub renamed : Renaming → ℕ → List ℕ → Net → Net
+renamed Replaced n ws = mapNetNew (replacedIn n ws)
+renamed Renumbered n ws = netMap (netlistIn n ws .bits) (marksIn visitedAt n ws)
+
+-- the record of a slot with its operands renamed
+unfoldable pub renamedRecord : Renaming → ℕ → List ℕ → ℕ → Record
+renamedRecord by n ws s = cellRecord (wordRecord ws s .bit) (visitMut (renamed by n ws) (cellOf (wordRecord ws s)))
+
+-- the bytes of a slot's record under its new number, if it is kept
+unfoldable pub keptBytes : ℕ → List ℕ → ℕ → List ℕ
+keptBytes n ws s = cond (keptAt n ws s) (bytesOf (renamedRecord Renumbered n ws s)) []
+
+-- a slot's part of `didChange`
+unfoldable pub changesIn : ℕ → List ℕ → ℕ → Bool
+changesIn n ws s = anyOf (λ x. not (eqNet (mapNetNew (replacedIn n ws) x) x)) (visit (cellOf (wordRecord ws s)))
+
+-- `apply` at one slot
+pub record Applies (n s : ℕ) (ws ws′ : List ℕ) (r : Bool) : Type 0 where
+  pub stored : ws′ ≡ storeWords ws s (renamedRecord Replaced n ws s)
+  pub bit : wordRecord ws s .bit < 65536
+  pub changed : r ≡ changesIn n ws s

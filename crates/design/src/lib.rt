@@ -1,0 +1,26 @@
+// The change queue and compacting, after netlist/src/design.rs.
+use cell::Cell;
+use value::Net;
+
+pub mod compact;
+pub mod queue;
+pub mod visit;
+
+// What the rules see of a net: the cell that it comes from. A constant is opaque too: the Rust's look-up shows it, and no
+// rule tells it from an opaque one.
+pub enum Source {
+    Opaque,
+    Known(Cell),
+}
+
+// What a search for a cell gives: the net that holds it.
+pub enum Found {
+    Nothing,
+    At(Net),
+}
+
+// What operands are renamed by: the replaced nets, or the new slots of those that are kept.
+pub enum Renaming {
+    Replaced,
+    Renumbered,
+}

@@ -1,0 +1,117 @@
+// Replaced nets, a word a slot. A net that is not replaced stands for itself.
+use crate::Renaming;
+use crate::visit;
+use cell::Cell;
+use cell::Record;
+use value::Driver;
+use value::Net;
+use value::Slot;
+ghost use mathlib.Core.Path.{_≡_};
+ghost use Prim.Native.Nat.{_≤_, _<_};
+ghost use lib.ListN.{length, set};
+ghost use Rattle.value.specs.Value.{driver};
+ghost use Rattle.cell.specs.Tabulate.{tabulate};
+ghost use Rattle.netlist.specs.Areas.{Within};
+ghost use Rattle.design.specs.Queue.{netIn, drivenTo, mapNetNew, eqRecord, eqCell, didChange};
+ghost use Rattle.design.specs.Words.{netlistIn, replacedIn, designIn, appliedIn, Applies};
+
+// Nothing is replaced yet.
+pub fn unchanged(work: &mut [u32], n: u32)
+    requires { ⌜ 16384 ≤ length (now work) ⌝ }
+    requires { ⌜ n ≤ 1024 ⌝ }
+    ensures { λ _. ⌜ replacedIn n (now (work .exit)) ≡ tabulate netIn n ⌝ }
+    ensures { λ _. ⌜ Within 6144 7168 (now (work .entry)) (now (work .exit)) ⌝ }
+{
+    let mut s: u32 = 0;
+    while s < n {
+        cell::put(work, 6144 + (s as usize), s + 2);
+        s += 1;
+    }
+}
+
+// Has a slot's net replaced.
+pub fn replace_net(work: &mut [u32], n: u32, s: Slot, x: Net)
+    requires { ⌜ 16384 ≤ length (now work) ⌝ }
+    requires { ⌜ n ≤ 1024 ⌝ }
+    requires { ⌜ s .0 < n ⌝ }
+    ensures { λ _. ⌜ replacedIn n (now (work .exit)) ≡ set (replacedIn n (now (work .entry))) (s .0) x ⌝ }
+    ensures { λ _. ⌜ Within 6144 7168 (now (work .entry)) (now (work .exit)) ⌝ }
+{
+    cell::put(work, 6144 + (s.0 as usize), x.0);
+}
+
+// What a net is replaced by, in one step.
+fn replaced_by(work: &[u32], n: u32, x: Net) -> Net
+    ensures { λ r. ⌜ r ≡ drivenTo (replacedIn n (now (work .entry))) x (driver x) ⌝ }
+{
+    match x.as_cell_index() {
+        Driver::Const(_) => x,
+        Driver::Cell(s) => {
+            if s.0 < n {
+                return Net(cell::word(work, 6144 + (s.0 as usize)));
+            }
+            x
+        }
+    }
+}
+
+// Where a net's replacements end.
+pub fn map_net_new(work: &[u32], n: u32, x: Net) -> Net
+    ensures { λ r. ⌜ r ≡ mapNetNew (replacedIn n (now (work .entry))) x ⌝ }
+{
+    let mut y = x;
+    let mut left = n;
+    while 0 < left {
+        let z = replaced_by(work, n, y);
+        if value::net_eq(z, y) {
+            return y;
+        }
+        y = z;
+        left -= 1;
+    }
+    y
+}
+
+fn record_eq(x: Record, y: Record) -> bool
+    ensures { λ r. ⌜ r ≡ eqRecord x y ⌝ }
+{
+    let heads = logic::both(x.kind == y.kind, x.flags == y.flags);
+    let pair = logic::both(heads, x.a == y.a);
+    logic::both(logic::both(pair, x.b == y.b), x.c == y.c)
+}
+
+// Equality of cells, by the fields of their records.
+pub fn cell_eq(c: Cell, d: Cell) -> bool
+    ensures { λ r. ⌜ r ≡ eqCell c d ⌝ }
+{
+    record_eq(cell::cell_record(0, c), cell::cell_record(0, d))
+}
+
+// Puts the replacements into one slot, and says whether there was one.
+fn apply_to(work: &mut [u32], n: u32, s: Slot) -> bool
+    requires { ⌜ n ≤ 1024 ⌝ }
+    ensures { λ r. ⌜ Applies n (s .0) (now (work .entry)) (now (work .exit)) r ⌝ }
+{
+    let old = netlist::cell_in(work, s);
+    let r = visit::renamed_record(work, n, Renaming::Replaced, s);
+    netlist::put_record(work, s, r);
+    !cell_eq(cell::cell_of(r), old)
+}
+
+// Puts the replacements into all slots, and says whether there was one.
+pub fn apply(work: &mut [u32], n: u32) -> bool
+    requires { ⌜ 16384 ≤ length (now work) ⌝ }
+    requires { ⌜ n ≤ 1024 ⌝ }
+    ensures { λ _. ⌜ netlistIn n (now (work .exit)) ≡ appliedIn n (now (work .entry)) ⌝ }
+    ensures { λ r. ⌜ r ≡ didChange (designIn n (now (work .entry))) ⌝ }
+    ensures { λ _. ⌜ Within 0 4096 (now (work .entry)) (now (work .exit)) ⌝ }
+{
+    let mut changed = false;
+    let mut s: u32 = 0;
+    while s < n {
+        let more = apply_to(work, n, Slot(s));
+        changed = logic::either(changed, more);
+        s += 1;
+    }
+    changed
+}

@@ -1,0 +1,4 @@
+pub mod Cells
+pub mod Slots
+pub mod Levels
+pub mod Given

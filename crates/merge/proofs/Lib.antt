@@ -1,0 +1,7 @@
+pub mod Keys
+pub mod Room
+pub mod Seeking
+pub mod Cells
+pub mod Numbering
+pub mod Merging
+pub mod Examples

@@ -1,0 +1,272 @@
+-- Keys found or entered. Assumes nothing.
+use mathlib.Core.Path.{_≡_, refl, sym, ap, ap₂, _∙_, subst}
+use mathlib.Core.List.{List, [], _∷_, _++_, map}
+use mathlib.Core.Logic.{_⊎_, inl, inr, ⊎-elim}
+use Prim.Native.Nat.{ℕ, zero, suc, _+_, _-_, _*_, _≤_, _<_}
+use native.Mathlib.Omega.{arith}
+use native.Mathlib.Numerals.{add-one}
+use native.Mathlib.Decide.{decLt}
+use lib.ListN.{length, set}
+use Rattle.value.specs.declared.Net.{Net}
+use Rattle.value.specs.declared.ControlNet.{ControlNet}
+use Rattle.cell.specs.declared.Record.{Record}
+use Rattle.cell.specs.declared.Cell.{Cell}
+use Rattle.cell.specs.declared.Cell.the-variants.{Input, Output, Buf, Not, And, Or, Xor, Mux, Aig}
+use Rattle.cell.specs.Records.{cellOf, cellRecord}
+use Rattle.cell.specs.Tabulate.{tabulate}
+use Rattle.cell.proofs.RoundTrips.{cell-back}
+use Rattle.netlist.specs.Areas.{wordRecord, storeWords, recordsIn, Within}
+use Rattle.netlist.specs.Shape.{visitMut}
+use Rattle.netlist.specs.Netlist.{netlistOf, cellIn, run, outputOf}
+use Rattle.netlist.proofs.Frames.{within-none, within-then, within-wider, tabulate-same, record-kept, records-kept}
+use Rattle.netlist.proofs.Areas.{Sized, store-within, stored-other, stored-same}
+use Rattle.design.specs.declared.Found.{Found}
+use Rattle.design.specs.declared.Found.the-variants.{Nothing, At}
+use Rattle.design.specs.Queue.{Design, Entry, netIn, mapNetNew, replaceNet, seek}
+use Rattle.design.specs.Words.{netlistIn, replacedIn, designIn}
+use Rattle.merge.specs.Merge.{Merging, keyOf, numbered, findOrInsert, mergeCell}
+use Rattle.merge.specs.Words.{entryOf, numbererIn, mergingIn, keyIn, keyAt, IsCell, Entered, Ready, Keyed, Keys, Numbers, NumbersAll, widthOf, Merges}
+use Rattle.design.proofs.Words.{cell-at}
+use Rattle.design.proofs.Lists.{map-table}
+use Rattle.merge.proofs.Cells.{cell-sized, replaced-stays}
+
+-- records of cells
+bit-of : (b : ℕ) (c : Cell) → cellRecord b c .bit ≡ b
+unfolding cellRecord
+bit-of b (Input l) = refl
+bit-of b (Output x l) = refl
+bit-of b (Buf x) = refl
+bit-of b (Not x) = refl
+bit-of b (And x y) = refl
+bit-of b (Or x y) = refl
+bit-of b (Xor x y) = refl
+bit-of b (Mux x y z) = refl
+bit-of b (Aig p q) = refl
+
+pub is-cell : (r : Record) (b : ℕ) (c : Cell) → r ≡ cellRecord b c → IsCell r
+is-cell r b c e =
+    record { back = e ∙ sym (ap₂ cellRecord (ap (λ (x : Record). x .bit) e ∙ bit-of b c) (ap cellOf e ∙ cell-back b c)) }
+
+-- the areas of merging after a store into others
+module _ (from to : ℕ) (ws ws′ : List ℕ) (w : Within from to ws ws′) (k : ℕ) (apart : (to ≤ 9216) ⊎ (9216 + k * 4 ≤ from)) where
+  entry-stays : (i : ℕ) → i < k → wordRecord ws′ (2304 + i) ≡ wordRecord ws (2304 + i)
+  entry-stays i l = record-kept from to ws ws′ w (2304 + i) (⊎-elim (λ h. inr (omega arith)) (λ h. inl (omega arith)) apart)
+
+  pub numberer-stays : numbererIn k ws′ ≡ numbererIn k ws
+  unfolding numbererIn
+  numberer-stays =
+      tabulate-same (λ i. entryOf (wordRecord ws′ (2304 + i))) (λ i. entryOf (wordRecord ws (2304 + i))) k (λ i l. ap entryOf (entry-stays i l))
+
+  pub entered-stays : Entered k ws → Entered k ws′
+  entered-stays en = record { each = λ i l. subst IsCell (sym (entry-stays i l)) (en .each i l) }
+
+pub design-stays : (from to n : ℕ) (ws ws′ : List ℕ) → 7168 ≤ from → n ≤ 512 → Within from to ws ws′ → designIn n ws′ ≡ designIn n ws
+unfolding designIn
+design-stays from to n ws ws′ far few w =
+    rw (replaced-stays from to n ws ws′ far few w, records-kept from to ws ws′ w n (omega arith))
+
+-- `find_or_insert`
+module _ (ws : List ℕ) (s : ℕ) (keyed : Keyed s (s + 1) ws) (key : Record) (key-is : key ≡ wordRecord ws (3328 + s)) where
+  key-of-slot : key ≡ cellRecord s (keyAt ws s)
+  key-of-slot = key-is ∙ keyed .each s (omega arith) (omega arith)
+
+  pub key-is-cell : IsCell key
+  key-is-cell = is-cell key s (keyAt ws s) key-of-slot
+
+  key-cell : cellOf key ≡ keyAt ws s
+  unfolding keyAt
+  key-cell = ap cellOf key-is
+
+  module _ (n k : ℕ) (g : Ready n k ws) (v : Found) (v-is : v ≡ seek (numbererIn k ws) (cellOf key)) where
+    numbered-by : (d : Found) → v ≡ d → numbered (mergingIn n k ws) (keyAt ws s) s (seek (numbererIn k ws) (keyAt ws s)) ≡ numbered (mergingIn n k ws) (keyAt ws s) s d
+    numbered-by d e =
+        ap (numbered (mergingIn n k ws) (keyAt ws s) s) (ap (seek (numbererIn k ws)) (sym key-cell) ∙ sym v-is ∙ e)
+
+    pub numbers-found : (x : Net) → v ≡ At x → (ws′ : List ℕ) → replacedIn n ws′ ≡ set (replacedIn n ws) s x → Within 6144 7168 ws ws′ → Numbers n k s ws ws′ k
+    unfolding mergingIn designIn
+    numbers-found x e ws′ q w =
+        let few : n ≤ 512 = g .few in
+        let long : 16384 ≤ length ws = g .long in
+        record {
+          said =
+              rw (q, records-kept 6144 7168 ws ws′ w n (omega arith), numberer-stays 6144 7168 ws ws′ w k (inl (omega arith)))
+              (sym (numbered-by (At x) e));
+          ready = record {
+            long = omega (arith, w .same);
+            few = few;
+            entered = entered-stays 6144 7168 ws ws′ w k (inl (omega arith)) (g .entered);
+          };
+          most = omega arith;
+          frame = within-wider 6144 7168 6144 13312 ws ws′ (omega arith) (omega arith) w;
+        }
+
+    module _ (ws′ : List ℕ) (store : ws′ ≡ storeWords ws (2304 + k) key) (room : k < 1024) (small : s < n) where
+      within : Within ((2304 + k) * 4) ((2304 + k) * 4 + 4) ws ws′
+      within = subst (λ (vs : List ℕ). Within ((2304 + k) * 4) ((2304 + k) * 4 + 4) ws vs) (sym store) (store-within ws (2304 + k) key)
+
+      stored : wordRecord ws′ (2304 + k) ≡ key
+      stored =
+          let few : n ≤ 512 = g .few in
+          let long : 16384 ≤ length ws = g .long in
+          ap (λ (vs : List ℕ). wordRecord vs (2304 + k)) store
+          ∙ stored-same ws (2304 + k) key (omega arith) (subst Sized (sym key-of-slot) (cell-sized s (keyAt ws s) (omega arith)))
+
+      entered-one : numbererIn (k + 1) ws′ ≡ numbererIn k ws ++ ((keyAt ws s, netIn s) ∷ [])
+      unfolding numbererIn tabulate
+      entered-one =
+          rw (add-one k, numberer-stays ((2304 + k) * 4) ((2304 + k) * 4 + 4) ws ws′ within k (inr (omega arith)), stored, key-cell)
+          (ap (λ (b : ℕ). numbererIn k ws ++ ((keyAt ws s, netIn b) ∷ [])) (ap (λ (r : Record). r .bit) key-of-slot ∙ bit-of s (keyAt ws s)))
+
+      entered-more : Entered (k + 1) ws′
+      entered-more = record { each = λ i l. go i l (decLt i k) }
+        where
+          go : (i : ℕ) → i < k + 1 → Dec (i < k) → IsCell (wordRecord ws′ (2304 + i))
+          go i l (yes m) = entered-stays ((2304 + k) * 4) ((2304 + k) * 4 + 4) ws ws′ within k (inr (omega arith)) (g .entered) .each i m
+          go i l (no m) =
+              let q : k ≡ i = omega arith in
+              subst (λ (j : ℕ). IsCell (wordRecord ws′ (2304 + j))) q (subst IsCell (sym stored) key-is-cell)
+
+      pub numbers-new : v ≡ Nothing → Numbers n k s ws ws′ (k + 1)
+      unfolding mergingIn
+      numbers-new e =
+          let few : n ≤ 512 = g .few in
+          let long : 16384 ≤ length ws = g .long in
+          record {
+            said =
+                rw (design-stays ((2304 + k) * 4) ((2304 + k) * 4 + 4) n ws ws′ (omega arith) few within, entered-one)
+                (sym (numbered-by Nothing e));
+            ready = record { long = omega (arith, within .same); few = few; entered = entered-more };
+            most = omega arith;
+            frame = within-wider ((2304 + k) * 4) ((2304 + k) * 4 + 4) 6144 13312 ws ws′ (omega arith) (omega arith) within;
+          }
+
+-- the loop of `find_or_insert_all`: one key after another
+abbrev step : Merging → Cell → ℕ → Merging
+step m c s = numbered m c s (seek (m .numberer) c)
+
+insert-more : (m : Merging) (bs : List (Cell × ℕ)) (c : Cell) (s : ℕ) → findOrInsert m (bs ++ ((c, s) ∷ [])) ≡ step (findOrInsert m bs) c s
+unfolding findOrInsert
+insert-more m [] c s = refl
+insert-more m (b ∷ bs) c s = insert-more (step m (b .0) (b .1)) bs c s
+
+pub record Numbering (n k₀ s e : ℕ) (ws₀ ws : List ℕ) (k i : ℕ) : Type 0 where
+  pub from : s ≤ i
+  pub upto : i ≤ e
+  pub inside : e ≤ n
+  pub room : k₀ + (e - s) ≤ 1024
+  pub keyed : Keyed s e ws₀
+  pub said : mergingIn n k ws ≡ findOrInsert (mergingIn n k₀ ws₀) (tabulate (λ j. (keyAt ws₀ (s + j), s + j)) (i - s))
+  pub ready : Ready n k ws
+  pub most : k ≤ k₀ + (i - s)
+  pub frame : Within 6144 13312 ws₀ ws
+
+pub numbering-none : (n k s e : ℕ) (ws : List ℕ) → Ready n k ws → Keyed s e ws → s ≤ e → e ≤ n → k + (e - s) ≤ 1024 → Numbering n k s e ws ws k s
+unfolding findOrInsert tabulate
+numbering-none n k s e ws g q a b r =
+    let z : s - s ≡ 0 = omega arith in
+    record {
+      from = omega arith;
+      upto = a;
+      inside = b;
+      room = r;
+      keyed = q;
+      said = rw z;
+      ready = g;
+      most = omega arith;
+      frame = within-none 6144 13312 ws;
+    }
+
+module _ (n k₀ s e : ℕ) (ws₀ ws : List ℕ) (k i : ℕ) (g : Numbering n k₀ s e ws₀ ws k i) where
+  place-stays : (j : ℕ) → wordRecord ws (3328 + j) ≡ wordRecord ws₀ (3328 + j)
+  place-stays j = record-kept 6144 13312 ws₀ ws (g .frame) (3328 + j) (inr (omega arith))
+
+  key-same : (j : ℕ) → keyAt ws j ≡ keyAt ws₀ j
+  unfolding keyAt
+  key-same j = ap cellOf (place-stays j)
+
+  pub numbering-keyed : i < e → Keyed i (i + 1) ws
+  numbering-keyed l =
+      let a : s ≤ i = g .from in
+      record { each = λ j x y. place-stays j ∙ g .keyed .each j (omega arith) (omega arith) ∙ ap (cellRecord j) (sym (key-same j)) }
+
+  pub numbering-more : (ws′ : List ℕ) (k′ : ℕ) → Numbers n k i ws ws′ k′ → i < e → Numbering n k₀ s e ws₀ ws′ k′ (i + 1)
+  unfolding mergingIn tabulate
+  numbering-more ws′ k′ q l =
+      let a : s ≤ i = g .from in
+      let here : s + (i - s) ≡ i = omega arith in
+      let next : i + 1 - s ≡ suc (i - s) = omega arith in
+      let most : k ≤ k₀ + (i - s) = g .most in
+      let more : k′ ≤ k + 1 = q .most in
+      record {
+        from = omega arith;
+        upto = omega arith;
+        inside = g .inside;
+        room = g .room;
+        keyed = g .keyed;
+        said =
+            q .said ∙ ap (λ (c : Cell). step (mergingIn n k ws) c i) (key-same i) ∙ ap (λ (m : Merging). step m (keyAt ws₀ i) i) (g .said)
+            ∙ sym (rw (next, insert-more (mergingIn n k₀ ws₀) (tabulate (λ j. (keyAt ws₀ (s + j), s + j)) (i - s)) (keyAt ws₀ (s + (i - s))) (s + (i - s)), here));
+        ready = q .ready;
+        most = omega arith;
+        frame = within-then 6144 13312 ws₀ ws ws′ (g .frame) (q .frame);
+      }
+
+  pub numbering-all : e ≤ i → NumbersAll n k₀ s e ws₀ ws k
+  numbering-all h =
+      let z : i ≡ e = let u : i ≤ e = g .upto in omega arith in
+      record {
+        said = subst (λ (x : ℕ). mergingIn n k ws ≡ findOrInsert (mergingIn n k₀ ws₀) (tabulate (λ j. (keyAt ws₀ (s + j), s + j)) (x - s))) z (g .said);
+        ready = g .ready;
+        most = subst (λ (x : ℕ). k ≤ k₀ + (x - s)) z (g .most);
+        frame = g .frame;
+      }
+
+-- `merge_cell`
+module _ (n s e : ℕ) (ws ws₁ : List ℕ) (q : Keys n s e ws ws₁) where
+  pub keys-keyed : Keyed s e ws₁
+  unfolding keyAt
+  keys-keyed = record { each = λ j a b. q .each j a b ∙ ap (cellRecord j) (sym (ap cellOf (q .each j a b) ∙ cell-back j (keyIn n ws j))) }
+
+  pub keys-ready : (k : ℕ) → Ready n k ws → k + widthOf (netlistIn n ws .bits) s ≤ 1024 → Ready n k ws₁
+  keys-ready k g r =
+      let long : 16384 ≤ length ws = g .long in
+      record { long = omega (arith, q .frame .same); few = g .few; entered = entered-stays 13312 15360 ws ws₁ (q .frame) k (inr (omega arith)) (g .entered) }
+
+  module _ (k : ℕ) (g : Ready n k ws) (e-is : e ≡ s + widthOf (netlistIn n ws .bits) s) (inside : e ≤ n) (r : k + widthOf (netlistIn n ws .bits) s ≤ 1024) where
+    merging-same : mergingIn n k ws₁ ≡ mergingIn n k ws
+    unfolding mergingIn
+    merging-same =
+        rw (design-stays 13312 15360 n ws ws₁ (omega arith) (g .few) (q .frame), numberer-stays 13312 15360 ws ws₁ (q .frame) k (inr (omega arith)))
+
+    key-of-bit : (i : ℕ) → i < widthOf (netlistIn n ws .bits) s
+        → keyAt ws₁ (s + i) ≡ keyOf (visitMut (mapNetNew (mergingIn n k ws .design .replaced)) (cellIn (netlistIn n ws .cells) (s + i)))
+    unfolding keyAt keyIn mergingIn designIn
+    key-of-bit i l =
+        ap cellOf (q .each (s + i) (omega arith) (omega arith)) ∙ cell-back (s + i) (keyIn n ws (s + i))
+        ∙ ap (λ (c : Cell). keyOf (visitMut (mapNetNew (replacedIn n ws)) c)) (sym (cell-at n ws (s + i) (omega arith)))
+
+    abbrev keyed : ℕ → Cell × ℕ
+    keyed i = (keyOf (visitMut (mapNetNew (mergingIn n k ws .design .replaced)) (cellIn (netlistIn n ws .cells) i)), i)
+
+    abbrev placed : ℕ → Cell × ℕ
+    placed i = (keyAt ws₁ (s + i), s + i)
+
+    bits-same : tabulate placed (e - s) ≡ map keyed (outputOf (netlistIn n ws .bits) s)
+    unfolding outputOf widthOf
+    bits-same =
+        let w : ℕ = widthOf (netlistIn n ws .bits) s in
+        ap (tabulate placed) (omega arith)
+        ∙ tabulate-same placed (λ i. keyed (s + i)) w (λ i l. ap (λ (c : Cell). (c, s + i)) (key-of-bit i l))
+        ∙ sym (map-table (λ i. s + i) keyed w)
+
+    pub merges : (ws₂ : List ℕ) (k′ : ℕ) → NumbersAll n k s e ws₁ ws₂ k′ → Merges n k s ws ws₂ k′
+    unfolding mergeCell
+    merges ws₂ k′ a =
+        let most : k′ ≤ k + (e - s) = a .most in
+        record {
+          said = a .said ∙ rw (merging-same, bits-same);
+          ready = a .ready;
+          most = omega arith;
+          frame = within-then 6144 15360 ws ws₁ ws₂ (within-wider 13312 15360 6144 15360 ws ws₁ (omega arith) (omega arith) (q .frame))
+              (within-wider 6144 13312 6144 15360 ws₁ ws₂ (omega arith) (omega arith) (a .frame));
+        }

@@ -1,0 +1,244 @@
+// Merging of equal cells, after generic/src/merge.rs. The keys that were looked for and not found stand in an area of the work slice, each
+// as a record whose bit is the slot of the cell.
+use cell::Cell;
+use cell::Record;
+use design::Found;
+use design::Renaming;
+use value::Net;
+use value::Slot;
+ghost use mathlib.Core.Path.{_≡_};
+ghost use Prim.Native.Nat.{_+_, _-_, _≤_, _<_};
+ghost use lib.ListN.{length};
+ghost use Rattle.cell.specs.Records.{cellOf, cellRecord};
+ghost use Rattle.netlist.specs.Areas.{storeWords};
+ghost use Rattle.netlist.specs.Shape.{hasEffects};
+ghost use Rattle.design.specs.Queue.{eqRecord, seek};
+ghost use Rattle.design.specs.Words.{netlistIn};
+ghost use Rattle.merge.specs.Merge.{keyOf};
+ghost use Rattle.merge.specs.Words.{keysAt, numbererIn, keyIn, IsCell, Entered, Ready, Keyed, Keys, Numbers, NumbersAll, Merges, widthOf, loadOf, MergesNext, Sequenced, Ordered, MergesCells, MergesAll, MergesNetlist};
+
+// Where the numberer's keys stand, and those of a cell that is being merged, as slots of four words.
+const NUMBERER: u32 = 2304;
+
+const KEYS: u32 = 3328;
+
+const ORDER: usize = 5120;
+
+// The cell that is looked for: commutative operands in their order.
+fn key_of(c: Cell) -> Cell
+    ensures { λ r. ⌜ r ≡ keyOf c ⌝ }
+{
+    match c {
+        Cell::Input(l) => Cell::Input(l),
+        Cell::Output(x, l) => Cell::Output(x, l),
+        Cell::Buf(x) => Cell::Buf(x),
+        Cell::Not(x) => Cell::Not(x),
+        Cell::And(x, y) => if value::net_le(x, y) {
+            Cell::And(x, y)
+        } else {
+            Cell::And(y, x)
+        },
+        Cell::Or(x, y) => if value::net_le(x, y) {
+            Cell::Or(x, y)
+        } else {
+            Cell::Or(y, x)
+        },
+        Cell::Xor(x, y) => if value::net_le(x, y) {
+            Cell::Xor(x, y)
+        } else {
+            Cell::Xor(y, x)
+        },
+        Cell::Mux(x, y, z) => Cell::Mux(x, y, z),
+        Cell::Aig(p, q) => if value::control_le(p, q) {
+            Cell::Aig(p, q)
+        } else {
+            Cell::Aig(q, p)
+        },
+    }
+}
+
+// Puts the key of a slot, by the nets that are replaced so far, into its place.
+fn put_key(work: &mut [u32], n: u32, s: Slot)
+    requires { ⌜ n ≤ 512 ⌝ }
+    requires { ⌜ s .0 < n ⌝ }
+    ensures { λ _. ⌜ now (work .exit) ≡ storeWords (now (work .entry)) (keysAt + s .0) (cellRecord (s .0) (keyIn n (now (work .entry)) (s .0))) ⌝ }
+{
+    let c = design::visit::visit_mut(work, n, Renaming::Replaced, netlist::cell_in(work, s));
+    let key = cell::cell_record(s.0 as u16, key_of(c));
+    netlist::put_record(work, Slot(KEYS + s.0), key);
+}
+
+// The slot behind the cell that starts at a slot.
+fn cell_end(work: &[u32], n: u32, s: Slot) -> u32
+    requires { ⌜ s .0 < n ⌝ }
+    ensures { λ r. ⌜ r ≡ s .0 + widthOf (netlistIn n (now (work .entry)) .bits) (s .0) ⌝ }
+    ensures { λ r. ⌜ r ≤ n ⌝ }
+{
+    let mut e = s.0 + 1;
+    while e < n {
+        if netlist::record_in(work, Slot(e)).bit == 0 {
+            return e;
+        }
+        e += 1;
+    }
+    e
+}
+
+// Puts the keys of the slots from s up to e into their places, before the first of them is looked for.
+fn put_keys(work: &mut [u32], n: u32, s: Slot, e: u32)
+    requires { ⌜ 16384 ≤ length (now work) ⌝ }
+    requires { ⌜ n ≤ 512 ⌝ }
+    requires { ⌜ e ≤ n ⌝ }
+    ensures { λ _. ⌜ Keys n (s .0) e (now (work .entry)) (now (work .exit)) ⌝ }
+{
+    let mut i = s.0;
+    while i < e {
+        put_key(work, n, Slot(i));
+        i += 1;
+    }
+}
+
+fn same_key(x: Record, y: Record) -> bool
+    ensures { λ r. ⌜ r ≡ eqRecord x y ⌝ }
+{
+    if x.a == y.a {
+        let heads = logic::both(x.kind == y.kind, x.flags == y.flags);
+        return logic::both(logic::both(heads, x.b == y.b), x.c == y.c);
+    }
+    false
+}
+
+// Looks for a key, from the first entry on.
+fn find(work: &[u32], k: u32, key: Record) -> Found
+    requires { ⌜ k ≤ 1024 ⌝ }
+    requires { ⌜ Entered k (now work) ⌝ }
+    requires { ⌜ IsCell key ⌝ }
+    ensures { λ r. ⌜ r ≡ seek (numbererIn k (now (work .entry))) (cellOf key) ⌝ }
+{
+    let mut i: u32 = 0;
+    while i < k {
+        let r = netlist::record_in(work, Slot(NUMBERER + i));
+        if same_key(r, key) {
+            return Found::At(Net::from_cell_index(Slot(r.bit as u32)));
+        }
+        i += 1;
+    }
+    Found::Nothing
+}
+
+// Looks for the key in a slot's place: the slot's net is replaced by the net that has it, or the key is entered for it.
+fn find_or_insert(work: &mut [u32], n: u32, k: u32, s: Slot) -> u32
+    requires { ⌜ Ready n k (now work) ⌝ }
+    requires { ⌜ k < 1024 ⌝ }
+    requires { ⌜ s .0 < n ⌝ }
+    requires { ⌜ Keyed (s .0) (s .0 + 1) (now work) ⌝ }
+    ensures { λ r. ⌜ Numbers n k (s .0) (now (work .entry)) (now (work .exit)) r ⌝ }
+{
+    let key = netlist::record_in(work, Slot(KEYS + s.0));
+    match find(work, k, key) {
+        Found::At(x) => {
+            design::queue::replace_net(work, n, s, x);
+            k
+        }
+        Found::Nothing => {
+            netlist::put_record(work, Slot(NUMBERER + k), key);
+            k + 1
+        }
+    }
+}
+
+// Looks for the keys of the slots from s up to e one after another.
+fn find_or_insert_all(work: &mut [u32], n: u32, k: u32, s: Slot, e: u32) -> u32
+    requires { ⌜ Ready n k (now work) ⌝ }
+    requires { ⌜ Keyed (s .0) e (now work) ⌝ }
+    requires { ⌜ s .0 ≤ e ⌝ }
+    requires { ⌜ e ≤ n ⌝ }
+    requires { ⌜ k + (e - s .0) ≤ 1024 ⌝ }
+    ensures { λ r. ⌜ NumbersAll n k (s .0) e (now (work .entry)) (now (work .exit)) r ⌝ }
+{
+    let mut i = s.0;
+    let mut count = k;
+    while i < e {
+        count = find_or_insert(work, n, count, Slot(i));
+        i += 1;
+    }
+    count
+}
+
+// Merges the cell that starts at a slot: all its keys are made before the first is looked for.
+fn merge_cell(work: &mut [u32], n: u32, k: u32, s: Slot) -> u32
+    requires { ⌜ Ready n k (now work) ⌝ }
+    requires { ⌜ s .0 < n ⌝ }
+    requires { ⌜ k + widthOf (netlistIn n (now work) .bits) (s .0) ≤ 1024 ⌝ }
+    ensures { λ r. ⌜ Merges n k (s .0) (now (work .entry)) (now (work .exit)) r ⌝ }
+{
+    let e = cell_end(work, n, s);
+    put_keys(work, n, s, e);
+    find_or_insert_all(work, n, k, s, e)
+}
+
+fn has_effects(c: Cell) -> bool
+    ensures { λ r. ⌜ r ≡ hasEffects c ⌝ }
+{
+    match c {
+        Cell::Input(_) => true,
+        Cell::Output(_, _) => true,
+        Cell::Buf(_) => false,
+        Cell::Not(_) => false,
+        Cell::And(_, _) => false,
+        Cell::Or(_, _) => false,
+        Cell::Xor(_, _) => false,
+        Cell::Mux(_, _, _) => false,
+        Cell::Aig(_, _) => false,
+    }
+}
+
+// Merges a cell unless it has effects.
+fn merge_next(work: &mut [u32], n: u32, k: u32, s: Slot) -> u32
+    requires { ⌜ Ready n k (now work) ⌝ }
+    requires { ⌜ s .0 < n ⌝ }
+    requires { ⌜ k + loadOf (netlistIn n (now work)) (s .0) ≤ 1024 ⌝ }
+    ensures { λ r. ⌜ MergesNext n k (s .0) (now (work .entry)) (now (work .exit)) r ⌝ }
+{
+    if has_effects(netlist::cell_in(work, s)) {
+        return k;
+    }
+    merge_cell(work, n, k, s)
+}
+
+// Merges the cells whose slots stand in the order area, one after another.
+fn merge_cells(work: &mut [u32], n: u32, count: u32)
+    requires { ⌜ Ordered n count (now work) ⌝ }
+    ensures { λ _. ⌜ MergesCells n count (now (work .entry)) (now (work .exit)) ⌝ }
+{
+    let mut k: u32 = 0;
+    let mut j: u32 = 0;
+    while j < count {
+        let s = cell::word(work, ORDER + (j as usize));
+        k = merge_next(work, n, k, Slot(s));
+        j += 1;
+    }
+}
+
+// Merges all cells: their nets are replaced, and no operand is yet.
+fn merge_all(work: &mut [u32], n: u32)
+    requires { ⌜ 16384 ≤ length (now work) ⌝ }
+    requires { ⌜ n ≤ 512 ⌝ }
+    requires { ⌜ Sequenced (netlistIn n (now work) .bits) ⌝ }
+    ensures { λ _. ⌜ MergesAll n (now (work .entry)) (now (work .exit)) ⌝ }
+{
+    let count = order::iter_cells_topo(work, n);
+    design::queue::unchanged(work, n);
+    merge_cells(work, n, count);
+}
+
+// `merge` up to `compact`: replaces the nets of equal cells, and says whether an operand was changed.
+pub fn merge(work: &mut [u32], n: u32) -> bool
+    requires { ⌜ 16384 ≤ length (now work) ⌝ }
+    requires { ⌜ n ≤ 512 ⌝ }
+    requires { ⌜ Sequenced (netlistIn n (now work) .bits) ⌝ }
+    ensures { λ r. ⌜ MergesNetlist n (now (work .entry)) (now (work .exit)) r ⌝ }
+{
+    merge_all(work, n);
+    design::queue::apply(work, n)
+}

@@ -1,0 +1,103 @@
+use Rattle.netlist.specs.Areas.{storeWords}
+use borrow.Author.Needs.{needs}
+use Rattle.netlist.proofs.put_record.Statement.{statement}
+use Rattle.netlist.proofs.put_record.Tie as tie
+use Rattle.netlist.proofs.put_record.Reads as reads
+use Rattle.netlist.proofs.put_record.Lts as lts
+use Rattle.cell.proofs.put.Reads as put-reads
+
+-- src/lib.rt:38:14
+cast-i : tie.Need-cast-i
+cast-i c = search needs
+
+-- src/lib.rt:38:13
+mul-i : tie.Need-mul-i
+mul-i c = search needs
+
+-- src/lib.rt:39:17
+cast-head : tie.Need-cast-head
+cast-head c = search needs
+
+-- src/lib.rt:39:42
+cast-head-2 : tie.Need-cast-head-2
+cast-head-2 c = search needs
+
+-- src/lib.rt:39:67
+cast-head-3 : tie.Need-cast-head-3
+cast-head-3 c = search needs
+
+-- src/lib.rt:39:60
+mul-head : tie.Need-mul-head
+mul-head c = search needs
+
+-- src/lib.rt:39:41
+add-head : tie.Need-add-head
+add-head c = search needs
+
+-- src/lib.rt:39:34
+mul-head-2 : tie.Need-mul-head-2
+mul-head-2 c = search needs
+
+-- src/lib.rt:39:16
+add-head-2 : tie.Need-add-head-2
+add-head-2 c = search needs
+
+-- src/lib.rt:40:5
+put-requires : tie.Need-put-requires
+put-requires c κs = search needs
+
+-- src/lib.rt:41:21
+add-put : tie.Need-add-put
+add-put c = search needs
+
+-- src/lib.rt:41:5
+put-requires-2 : tie.Need-put-requires-2
+put-requires-2 c κs = search needs
+
+-- src/lib.rt:42:21
+add-put-2 : tie.Need-add-put-2
+add-put-2 c = search needs
+
+-- src/lib.rt:42:5
+put-requires-3 : tie.Need-put-requires-3
+put-requires-3 c κs = search needs
+
+-- src/lib.rt:43:21
+add-put-3 : tie.Need-add-put-3
+add-put-3 c = search needs
+
+-- src/lib.rt:43:5
+put-requires-4 : tie.Need-put-requires-4
+put-requires-4 c κs = search needs
+
+-- src/lib.rt:35:1
+same-length : tie.Need-same-length
+same-length c = search needs
+
+-- src/lib.rt:35:1
+returns : tie.Need-returns
+unfolding storeWords
+returns c = cc
+
+pub put-record-spec : {M : Type 1} → statement M
+put-record-spec =
+    tie.close
+    (tie.spec
+    cast-i
+    mul-i
+    cast-head
+    cast-head-2
+    cast-head-3
+    mul-head
+    add-head
+    mul-head-2
+    add-head-2
+    put-requires
+    add-put
+    put-requires-2
+    add-put-2
+    put-requires-3
+    add-put-3
+    put-requires-4
+    same-length
+    returns)

@@ -1,0 +1,3 @@
+pub mod Shape
+pub mod Netlist
+pub mod Areas

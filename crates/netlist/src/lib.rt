@@ -1,0 +1,59 @@
+// A netlist in the words of the work slice: its records, read and written slot by slot.
+use cell::Cell;
+use cell::Record;
+use value::Slot;
+ghost use mathlib.Core.Path.{_≡_};
+ghost use Prim.Native.Nat.{_*_, _/_, _≤_, _<_};
+ghost use lib.ListN.{length};
+ghost use Rattle.cell.specs.Records.{cellOf, recordsOf};
+ghost use Rattle.netlist.specs.Areas.{wordRecord, storeWords, recordsIn, Within};
+
+// The record of a slot.
+pub fn record_in(work: &[u32], s: Slot) -> Record
+    ensures { λ r. ⌜ r ≡ wordRecord (now (work .entry)) (s .0) ⌝ }
+{
+    let i = (s.0 as usize) * 4;
+    let head = cell::word(work, i);
+    Record {
+        kind: (head % 256) as u8,
+        flags: (head / 256 % 256) as u8,
+        bit: (head / 65536) as u16,
+        a: cell::word(work, i + 1),
+        b: cell::word(work, i + 2),
+        c: cell::word(work, i + 3),
+    }
+}
+
+// The cell of a slot, cut to that bit.
+pub fn cell_in(work: &[u32], s: Slot) -> Cell
+    ensures { λ r. ⌜ r ≡ cellOf (wordRecord (now (work .entry)) (s .0)) ⌝ }
+{
+    cell::cell_of(record_in(work, s))
+}
+
+// Writes a record into a slot.
+pub fn put_record(work: &mut [u32], s: Slot, r: Record)
+    ensures { λ _. ⌜ now (work .exit) ≡ storeWords (now (work .entry)) (s .0) r ⌝ }
+{
+    let i = (s.0 as usize) * 4;
+    let head = (r.kind as u32) + 256 * ((r.flags as u32) + 256 * (r.bit as u32));
+    cell::put(work, i, head);
+    cell::put(work, i + 1, r.a);
+    cell::put(work, i + 2, r.b);
+    cell::put(work, i + 3, r.c);
+}
+
+// Copies the records of a ticket into the slots.
+pub fn load(work: &mut [u32], ticket: &[u8], n: u32)
+    requires { ⌜ 16384 ≤ length (now work) ⌝ }
+    requires { ⌜ n ≡ length (now ticket) / 16 ⌝ }
+    requires { ⌜ n ≤ 512 ⌝ }
+    ensures { λ _. ⌜ recordsIn n (now (work .exit)) ≡ recordsOf (now (ticket .entry)) ⌝ }
+    ensures { λ _. ⌜ Within 0 4096 (now (work .entry)) (now (work .exit)) ⌝ }
+{
+    let mut s: u32 = 0;
+    while s < n {
+        put_record(work, Slot(s), cell::record_at(ticket, Slot(s)));
+        s += 1;
+    }
+}

@@ -1,0 +1,7 @@
+pub mod Walks
+pub mod Words
+pub mod Walking
+pub mod Bits
+pub mod Lowest
+pub mod Cells
+pub mod Starts

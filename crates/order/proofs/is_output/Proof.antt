@@ -1,0 +1,20 @@
+-- `order::is_output` meets its contract. Assumes nothing.
+use Rattle.order.proofs.Bits.{output-word}
+use borrow.Author.Needs.{needs}
+use Rattle.order.proofs.is_output.Statement.{statement}
+use Rattle.order.proofs.is_output.Tie as tie
+
+cast-word : tie.Need-cast-word
+cast-word c = search needs
+
+mul-word : tie.Need-mul-word
+mul-word c = search needs
+
+word-requires : tie.Need-word-requires
+word-requires c κs = search needs
+
+returns : tie.Need-returns
+returns c = search output-word
+
+pub is-output-spec : {M : Type 1} → statement M
+is-output-spec = tie.close (tie.spec cast-word mul-word word-requires returns)

@@ -1,0 +1,356 @@
+// Orders, after netlist/src/design.rs: the bits and the cells of a netlist, operands before readers. The marks of the walk and the
+// order stand in areas of the work slice behind the records.
+use cell::Cell;
+use value::Driver;
+use value::Net;
+use value::Slot;
+ghost use mathlib.Core.Path.{_≡_};
+ghost use mathlib.Core.Bool.{false};
+ghost use mathlib.Core.List.{[], _∷_};
+ghost use Prim.Native.Nat.{_+_, _≤_, _<_};
+ghost use lib.ListN.{length, getD};
+ghost use Rattle.cell.specs.Records.{cellOf};
+ghost use Rattle.netlist.specs.Shape.{isInput, isOutput};
+ghost use Rattle.netlist.specs.Netlist.{startOf, slots};
+ghost use Rattle.netlist.specs.Areas.{wordRecord, recordsIn};
+ghost use Rattle.order.specs.Code.{Ready, Walks, Clears, Sorts, SortsCells, visitedIn, bitsBy, cellsBy};
+ghost use Rattle.order.specs.Descent.{operandsOf, bitsOf, operandBits, bitsIn, startsOf, bitReads, readBy, depsFrom, Lowest, Lowers};
+ghost use Rattle.order.specs.Starts.{startsThat, notOutput, Emits, PutsInputs, Free, Appends};
+
+const VISITED: usize = 4096;
+
+const ORDER: usize = 5120;
+
+// The nets that a cell reads, by field; a constant where there is none.
+struct Operands(Net, Net, Net);
+
+fn operands_of(c: Cell) -> Operands
+    ensures { λ r. ⌜ r ≡ operandsOf c ⌝ }
+{
+    match c {
+        Cell::Input(_) => Operands(Net::ZERO, Net::ZERO, Net::ZERO),
+        Cell::Output(x, _) => Operands(x, Net::ZERO, Net::ZERO),
+        Cell::Buf(x) => Operands(x, Net::ZERO, Net::ZERO),
+        Cell::Not(x) => Operands(x, Net::ZERO, Net::ZERO),
+        Cell::And(x, y) => Operands(x, y, Net::ZERO),
+        Cell::Or(x, y) => Operands(x, y, Net::ZERO),
+        Cell::Xor(x, y) => Operands(x, y, Net::ZERO),
+        Cell::Mux(x, y, z) => Operands(x, y, z),
+        Cell::Aig(p, q) => Operands(p.net(), q.net(), Net::ZERO),
+    }
+}
+
+// Whether the cell of a slot is an input.
+pub fn is_input(work: &[u32], s: Slot) -> bool
+    ensures { λ r. ⌜ r ≡ isInput (cellOf (wordRecord (now (work .entry)) (s .0))) ⌝ }
+{
+    cell::word(work, (s.0 as usize) * 4) % 256 == 1
+}
+
+pub fn is_output(work: &[u32], s: Slot) -> bool
+    ensures { λ r. ⌜ r ≡ isOutput (cellOf (wordRecord (now (work .entry)) (s .0))) ⌝ }
+{
+    cell::word(work, (s.0 as usize) * 4) % 256 == 2
+}
+
+// Whether an item was visited; what is no item counts as visited.
+fn is_visited(work: &[u32], n: u32, s: Slot) -> bool
+    ensures { λ r. ⌜ r ≡ visitedIn n (now (work .entry)) (s .0) ⌝ }
+{
+    if s.0 < n {
+        return cell::word(work, VISITED + (s.0 as usize)) != 0;
+    }
+    true
+}
+
+// Takes the marks off all items.
+pub fn clear_marks(work: &mut [u32], n: u32)
+    requires { ⌜ 16384 ≤ length (now work) ⌝ }
+    requires { ⌜ n ≤ 1024 ⌝ }
+    ensures { λ _. ⌜ Clears n (now (work .entry)) (now (work .exit)) ⌝ }
+{
+    let mut i: u32 = 0;
+    while i < n {
+        cell::put(work, VISITED + (i as usize), 0);
+        i += 1;
+    }
+}
+
+// Walks to a bit unless it was visited.
+fn walk_bit(work: &mut [u32], n: u32, s: Slot, count: u32) -> u32
+    requires { ⌜ Ready n count (now work) ⌝ }
+    ensures { λ r. ⌜ Walks bitsBy (s .0 ∷ []) n count (now (work .entry)) (now (work .exit)) r ⌝ }
+{
+    if is_visited(work, n, s) {
+        return count;
+    }
+    visit_bit(work, n, s, count)
+}
+
+// Marks a bit, walks down its operands and puts the bit behind them.
+fn visit_bit(work: &mut [u32], n: u32, s: Slot, count: u32) -> u32
+    requires { ⌜ Ready n count (now work) ⌝ }
+    requires { ⌜ visitedIn n (now work) (s .0) ≡ false ⌝ }
+    ensures { λ r. ⌜ Walks bitsBy (s .0 ∷ []) n count (now (work .entry)) (now (work .exit)) r ⌝ }
+{
+    let reads = operands_of(netlist::cell_in(work, s));
+    cell::put(work, VISITED + (s.0 as usize), 1);
+    let c = walk_operands(work, n, reads, count);
+    cell::put(work, ORDER + (c as usize), s.0);
+    c + 1
+}
+
+// Walks down the operands, the last first.
+fn walk_operands(work: &mut [u32], n: u32, reads: Operands, count: u32) -> u32
+    requires { ⌜ Ready n count (now work) ⌝ }
+    ensures { λ r. ⌜ Walks bitsBy (operandBits (recordsIn n (now (work .entry))) reads) n count (now (work .entry)) (now (work .exit)) r ⌝ }
+{
+    let third = walk_net(work, n, reads.2, count);
+    let second = walk_net(work, n, reads.1, third);
+    walk_net(work, n, reads.0, second)
+}
+
+// Walks to the bit that drives a net; inputs are not walked to.
+fn walk_net(work: &mut [u32], n: u32, x: Net, count: u32) -> u32
+    requires { ⌜ Ready n count (now work) ⌝ }
+    ensures { λ r. ⌜ Walks bitsBy (bitsOf (recordsIn n (now (work .entry))) x) n count (now (work .entry)) (now (work .exit)) r ⌝ }
+{
+    match x.as_cell_index() {
+        Driver::Const(_) => count,
+        Driver::Cell(s) => {
+            if is_input(work, s) {
+                return count;
+            }
+            walk_bit(work, n, s, count)
+        }
+    }
+}
+
+// `Design::topo_sort`: the bits of the first n slots in order, and their number.
+pub fn topo_sort(work: &mut [u32], n: u32) -> u32
+    requires { ⌜ 16384 ≤ length (now work) ⌝ }
+    requires { ⌜ n ≤ 1024 ⌝ }
+    ensures { λ r. ⌜ Sorts n (now (work .entry)) (now (work .exit)) r ⌝ }
+{
+    clear_marks(work, n);
+    let mut count: u32 = 0;
+    let mut s: u32 = 0;
+    while s < n {
+        count = walk_bit(work, n, Slot(s), count);
+        s += 1;
+    }
+    count
+}
+
+// The number of a slot's bit in its cell; 0 for what is no item.
+pub fn bit_of(work: &[u32], n: u32, s: Slot) -> u32
+    ensures { λ r. ⌜ r ≡ getD (bitsIn (recordsIn n (now (work .entry)))) (s .0) 0 ⌝ }
+{
+    if s.0 < n {
+        return cell::word(work, (s.0 as usize) * 4) / 65536;
+    }
+    0
+}
+
+// The slot where a slot's cell starts.
+pub fn start_of(work: &[u32], n: u32, s: Slot) -> u32
+    ensures { λ r. ⌜ r ≡ startOf (bitsIn (recordsIn n (now (work .entry)))) (s .0) ⌝ }
+{
+    let bit = bit_of(work, n, s);
+    if bit <= s.0 {
+        return s.0 - bit;
+    }
+    0
+}
+
+// The lower of `best` and y, if y is at least `from` and was not visited.
+fn lower(work: &[u32], n: u32, y: u32, from: u32, best: u32) -> u32
+    ensures { λ r. ⌜ Lowers n (now (work .entry)) from (y ∷ []) best r ⌝ }
+{
+    if y < from {
+        return best;
+    }
+    if best <= y {
+        return best;
+    }
+    if is_visited(work, n, Slot(y)) {
+        return best;
+    }
+    y
+}
+
+// So for the start of the cell that drives a net.
+fn lower_net(work: &[u32], n: u32, x: Net, from: u32, best: u32) -> u32
+    ensures { λ r. ⌜ Lowers n (now (work .entry)) from (startsOf (recordsIn n (now (work .entry))) x) best r ⌝ }
+{
+    match x.as_cell_index() {
+        Driver::Const(_) => best,
+        Driver::Cell(s) => lower(work, n, start_of(work, n, s), from, best),
+    }
+}
+
+// So for all operands of a bit.
+fn lower_bit(work: &[u32], n: u32, s: Slot, from: u32, best: u32) -> u32
+    requires { ⌜ s .0 < n ⌝ }
+    ensures { λ r. ⌜ Lowers n (now (work .entry)) from (bitReads (recordsIn n (now (work .entry))) (s .0)) best r ⌝ }
+{
+    let reads = operands_of(netlist::cell_in(work, s));
+    let first = lower_net(work, n, reads.0, from, best);
+    let second = lower_net(work, n, reads.1, from, first);
+    lower_net(work, n, reads.2, from, second)
+}
+
+// The lowest cell from a slot on that a cell reads and that was not visited, by its start; n if there is none.
+fn next_dep(work: &[u32], n: u32, s: Slot, from: u32) -> u32
+    requires { ⌜ s .0 < n ⌝ }
+    requires { ⌜ n ≤ 1024 ⌝ }
+    ensures { λ r. ⌜ Lowest n (now (work .entry)) from (readBy (recordsIn n (now (work .entry))) (s .0)) r ⌝ }
+{
+    let mut best = n;
+    let mut i = s.0;
+    loop {
+        best = lower_bit(work, n, Slot(i), from, best);
+        i += 1;
+        if bit_of(work, n, Slot(i)) == 0 {
+            return best;
+        }
+    }
+}
+
+// Walks to the cell that starts at a slot unless it was visited.
+pub fn walk_cell(work: &mut [u32], n: u32, s: Slot, count: u32) -> u32
+    requires { ⌜ Ready n count (now work) ⌝ }
+    ensures { λ r. ⌜ Walks cellsBy (s .0 ∷ []) n count (now (work .entry)) (now (work .exit)) r ⌝ }
+{
+    if is_visited(work, n, s) {
+        return count;
+    }
+    visit_cell(work, n, s, count)
+}
+
+// Marks a cell, walks to the cells that it reads and puts the cell behind them.
+fn visit_cell(work: &mut [u32], n: u32, s: Slot, count: u32) -> u32
+    requires { ⌜ Ready n count (now work) ⌝ }
+    requires { ⌜ visitedIn n (now work) (s .0) ≡ false ⌝ }
+    ensures { λ r. ⌜ Walks cellsBy (s .0 ∷ []) n count (now (work .entry)) (now (work .exit)) r ⌝ }
+{
+    cell::put(work, VISITED + (s.0 as usize), 1);
+    let c = walk_deps(work, n, s, 0, count);
+    cell::put(work, ORDER + (c as usize), s.0);
+    c + 1
+}
+
+// Walks to the cells from a slot on that a cell reads, the lowest first.
+fn walk_deps(work: &mut [u32], n: u32, s: Slot, from: u32, count: u32) -> u32
+    requires { ⌜ Ready n count (now work) ⌝ }
+    requires { ⌜ s .0 < n ⌝ }
+    ensures { λ r. ⌜ Walks cellsBy (depsFrom (recordsIn n (now (work .entry))) (s .0) from) n count (now (work .entry)) (now (work .exit)) r ⌝ }
+{
+    let x = next_dep(work, n, s, from);
+    if x < n {
+        let c = visit_cell(work, n, Slot(x), count);
+        return walk_deps(work, n, s, x + 1, c);
+    }
+    count
+}
+
+// Puts a slot into the order and marks it if an input starts there.
+fn put_input(work: &mut [u32], n: u32, s: Slot, count: u32) -> u32
+    requires { ⌜ Ready n count (now work) ⌝ }
+    requires { ⌜ visitedIn n (now work) (s .0) ≡ false ⌝ }
+    ensures { λ r. ⌜ Emits (startsThat isInput (recordsIn n (now (work .entry))) (s .0 ∷ [])) (s .0) n count (now (work .entry)) (now (work .exit)) r ⌝ }
+{
+    if bit_of(work, n, s) != 0 {
+        return count;
+    }
+    if is_input(work, s) {
+        cell::put(work, VISITED + (s.0 as usize), 1);
+        cell::put(work, ORDER + (count as usize), s.0);
+        return count + 1;
+    }
+    count
+}
+
+fn put_inputs(work: &mut [u32], n: u32) -> u32
+    requires { ⌜ 16384 ≤ length (now work) ⌝ }
+    requires { ⌜ n ≤ 512 ⌝ }
+    ensures { λ r. ⌜ PutsInputs n (now (work .entry)) (now (work .exit)) r ⌝ }
+{
+    clear_marks(work, n);
+    let mut count: u32 = 0;
+    let mut s: u32 = 0;
+    while s < n {
+        count = put_input(work, n, Slot(s), count);
+        s += 1;
+    }
+    count
+}
+
+// Walks to a slot if a cell starts there that is no output.
+fn walk_start(work: &mut [u32], n: u32, s: Slot, count: u32) -> u32
+    requires { ⌜ Ready n count (now work) ⌝ }
+    requires { ⌜ s .0 < n ⌝ }
+    ensures { λ r. ⌜ Walks cellsBy (startsThat notOutput (recordsIn n (now (work .entry))) (s .0 ∷ [])) n count (now (work .entry)) (now (work .exit)) r ⌝ }
+{
+    if bit_of(work, n, s) != 0 {
+        return count;
+    }
+    if is_output(work, s) {
+        return count;
+    }
+    walk_cell(work, n, s, count)
+}
+
+fn walk_starts(work: &mut [u32], n: u32, inputs: u32) -> u32
+    requires { ⌜ Ready n inputs (now work) ⌝ }
+    ensures { λ r. ⌜ Walks cellsBy (startsThat notOutput (recordsIn n (now (work .entry))) (slots n)) n inputs (now (work .entry)) (now (work .exit)) r ⌝ }
+{
+    let mut count = inputs;
+    let mut s: u32 = 0;
+    while s < n {
+        count = walk_start(work, n, Slot(s), count);
+        s += 1;
+    }
+    count
+}
+
+// Puts a slot into the order if an output starts there.
+fn put_output(work: &mut [u32], n: u32, s: Slot, count: u32) -> u32
+    requires { ⌜ Free n count (now work) ⌝ }
+    requires { ⌜ s .0 < n ⌝ }
+    ensures { λ r. ⌜ Appends (startsThat isOutput (recordsIn n (now (work .entry))) (s .0 ∷ [])) count (now (work .entry)) (now (work .exit)) r ⌝ }
+{
+    if bit_of(work, n, s) != 0 {
+        return count;
+    }
+    if is_output(work, s) {
+        cell::put(work, ORDER + (count as usize), s.0);
+        return count + 1;
+    }
+    count
+}
+
+fn put_outputs(work: &mut [u32], n: u32, cells: u32) -> u32
+    requires { ⌜ 16384 ≤ length (now work) ⌝ }
+    requires { ⌜ cells + n ≤ 1024 ⌝ }
+    ensures { λ r. ⌜ Appends (startsThat isOutput (recordsIn n (now (work .entry))) (slots n)) cells (now (work .entry)) (now (work .exit)) r ⌝ }
+{
+    let mut count = cells;
+    let mut s: u32 = 0;
+    while s < n {
+        count = put_output(work, n, Slot(s), count);
+        s += 1;
+    }
+    count
+}
+
+// `Design::iter_cells_topo`: the cells of the first n slots in order, by their starts, and their number.
+pub fn iter_cells_topo(work: &mut [u32], n: u32) -> u32
+    requires { ⌜ 16384 ≤ length (now work) ⌝ }
+    requires { ⌜ n ≤ 512 ⌝ }
+    ensures { λ r. ⌜ SortsCells n (now (work .entry)) (now (work .exit)) r ⌝ }
+{
+    let inputs = put_inputs(work, n);
+    let cells = walk_starts(work, n, inputs);
+    put_outputs(work, n, cells)
+}

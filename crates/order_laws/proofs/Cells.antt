@@ -1,0 +1,287 @@
+-- The cell order: each cell once. Assumes nothing.
+use mathlib.Core.Path.{_≡_, refl, sym, ap, _∙_, subst}
+use mathlib.Core.Bool.{Bool, true, false, cond, not, _&&_, _||_, true≢false, false≢true}
+use mathlib.Core.List.{List, [], _∷_, _++_, append-assoc, append-nil}
+use Prim.Native.Nat.{ℕ, zero, suc, _+_, _≤_, _<_}
+use native.Mathlib.Omega.{arith}
+use lib.Dec.{eqb}
+use lib.ListN.{length, getD, set}
+use lib.Seq.{getD-set-same, getD-set-other}
+use borrow.Author.Tests.{eqb-true, eqb-false}
+use Rattle.cell.specs.declared.Cell.{Cell}
+use Rattle.cell.specs.declared.Cell.the-variants.{Input, Output, Buf, Not, And, Or, Xor, Mux, Aig}
+use Rattle.cell.specs.Tabulate.{tabulate}
+use Rattle.netlist.specs.Shape.{isInput, isOutput}
+use Rattle.netlist.specs.Netlist.{Netlist, cellIn, slots, those, iterCells, cellDeps}
+use Rattle.order.specs.Walk.{Walk, isVisited, mark, push, each, down, walk, unvisited, fresh, walkFrom}
+use Rattle.order.specs.Orders.{emit, iterCellsTopo}
+use Rattle.order_laws.specs.Ordered.{has, OnceAfter}
+use Rattle.order_laws.proofs.Walks.{either, never, eqb-self, or-left, or-right, or-none, has-append, has-snoc, has-snoc-same, has-snoc-other, Inv, Goes, goes-none, goes-on, Went, WentAll, each-went, mark-inv, push-went, walk-went, fresh-inv, fresh-new, count-replicate, once-snoc}
+
+-- what is before is not after
+once-not : (before ss : List ℕ) (x : ℕ) → OnceAfter before ss → has x before ≡ true → has x ss ≡ false
+unfolding OnceAfter has
+once-not before [] x o h = refl
+once-not before (s ∷ ss) x o h =
+    either (eqb x s) (λ e. never h (ap (λ y. has y before) (eqb-true x s e) ∙ o .0))
+    (λ e. or-none (eqb x s) (has x ss) e
+    ∙ once-not (before ++ (s ∷ [])) ss x (o .1) (has-append x before (s ∷ []) ∙ or-left (has x before) _ h))
+
+first : (y : ℕ) (ys : List ℕ) → has y (y ∷ ys) ≡ true
+unfolding has
+first y ys = or-left (eqb y y) (has y ys) (eqb-self y)
+
+second : (x y : ℕ) (ys : List ℕ) → has x ys ≡ true → has x (y ∷ ys) ≡ true
+unfolding has
+second x y ys e = or-right (eqb x y) (has x ys) e
+
+-- two lists, each once and apart, are once together
+once-apart : (before done ys : List ℕ) → OnceAfter done ys → ((x : ℕ) → has x ys ≡ true → has x before ≡ false) → OnceAfter (before ++ done) ys
+unfolding OnceAfter
+once-apart before done [] p f = tt
+once-apart before done (y ∷ ys) p f = (
+  has-append y before done ∙ or-none (has y before) (has y done) (f y (first y ys)) ∙ p .0,
+  rw (append-assoc before done (y ∷ [])) (once-apart before (done ++ (y ∷ [])) ys (p .1) (λ x e. f x (second x y ys e))),
+)
+
+once-both : (before xs ys : List ℕ) → OnceAfter before xs → ((x : ℕ) → has x ys ≡ true → has x (before ++ xs) ≡ false) → OnceAfter [] ys → OnceAfter before (xs ++ ys)
+unfolding OnceAfter
+once-both before [] ys o f p = subst (λ b. OnceAfter b ys) (append-nil before) (once-apart before [] ys p (λ x e. rw append-nil at (f x e)))
+once-both before (x ∷ xs) ys o f p =
+    (o .0, once-both (before ++ (x ∷ [])) xs ys (o .1) (λ y e. rw (append-assoc before (x ∷ []) xs) (f y e)) p)
+
+module _ (n : ℕ) (deps : ℕ → List ℕ) where
+  -- inputs are marked and put down one after another
+  emit-went : (s : ℕ) (w : Walk) → Inv n w → isVisited w s ≡ false → Went n deps s w (emit s w)
+  emit-went s w i new = push-went n deps s w (mark s w) i new (mark-inv n deps s w i new) (goes-none (mark s w))
+
+  emit-all : (before ss : List ℕ) (w : Walk) → Inv n w → OnceAfter before ss → ((s : ℕ) → has s ss ≡ true → isVisited w s ≡ false)
+      → WentAll n deps ss w (each emit ss w)
+  unfolding each has OnceAfter
+  emit-all before [] w i o f = record { inv = i; goes = goes-none w; there = λ d e. absurd (false≢true e) }
+  emit-all before (s ∷ ss) w i o f =
+      let a : Went n deps s w (emit s w) = emit-went s w i (f s (first s ss)) in
+      let b : WentAll n deps ss (emit s w) (each emit ss (emit s w)) =
+      emit-all (before ++ (s ∷ [])) ss (emit s w) (a .inv) (o .1) (λ x e.
+      getD-set-other (w .visited) s x true true
+      (λ q. never e (once-not (before ++ (s ∷ [])) ss x (o .1) (ap (λ y. has y (before ++ (s ∷ []))) q ∙ has-snoc-same before s)))
+      ∙ f x (second x s ss e)) in
+      record {
+        inv = b .inv;
+        goes = goes-on w (emit s w) (each emit ss (emit s w)) (a .goes) (b .goes);
+        there = λ d e. either (eqb d s)
+            (λ g. b .goes .grown d (subst (λ x. isVisited (emit s w) x ≡ true) (sym (eqb-true d s g)) (a .there)))
+            (λ g. b .there d (sym (or-none (eqb d s) (has d ss) g) ∙ e));
+      }
+
+  -- only items that pass p are visited
+  module _ (p : ℕ → Bool) (depend : (s x : ℕ) → has x (deps s) ≡ true → p x ≡ true) where
+    abbrev Only : Walk → Type 0
+    Only w = (x : ℕ) → x < n → isVisited w x ≡ true → p x ≡ true
+
+    mark-only : (s : ℕ) (w : Walk) → p s ≡ true → Only w → Only (mark s w)
+    mark-only s w e o x l v =
+        either (eqb x s) (λ g. ap p (eqb-true x s g) ∙ e) (λ g. o x l (sym (getD-set-other (w .visited) s x true true (eqb-false x s g)) ∙ v))
+
+    each-only : (go : ℕ → Walk → Walk) → ((s : ℕ) (w : Walk) → p s ≡ true → Only w → Only (go s w)) → (ds : List ℕ) → ((d : ℕ) → has d ds ≡ true → p d ≡ true)
+        → (w : Walk) → Only w → Only (each go ds w)
+    unfolding each
+    each-only go h [] f w o = o
+    each-only go h (s ∷ ds) f w o = each-only go h ds (λ d e. f d (second d s ds e)) (go s w) (h s w (f s (first s ds)) o)
+
+    walk-only : (k s : ℕ) (w : Walk) → p s ≡ true → Only w → Only (walk k deps s w)
+    unfolding walk down
+    walk-only zero s w e o = o
+    walk-only (suc k) s w e o = go (isVisited w s) (walk-only k)
+      where
+        go : (b : Bool) → ((s : ℕ) (w : Walk) → p s ≡ true → Only w → Only (walk k deps s w)) → Only (cond b w (down (walk k deps) deps s w))
+        go true h = o
+        go false h = each-only (walk k deps) h (deps s) (depend s) (mark s w) (mark-only s w e o)
+
+  -- inputs first, then a walk from the others: each of them once, and nothing else
+  module _ (inputs others : List ℕ) (once : OnceAfter [] inputs) (small : (x : ℕ) → (has x inputs || has x others) ≡ true → x < n)
+      (depend : (s x : ℕ) → has x (deps s) ≡ true → (has x inputs || has x others) ≡ true) where
+    abbrev p : ℕ → Bool
+    p x = has x inputs || has x others
+
+    abbrev w₁ : Walk
+    w₁ = each emit inputs (fresh n)
+
+    abbrev w₂ : Walk
+    w₂ = walkFrom n deps others w₁
+
+    first-part : WentAll n deps inputs (fresh n) w₁
+    first-part =
+        emit-all [] inputs (fresh n) (fresh-inv n deps) once (λ s e. fresh-new n deps s (small s (or-left (has s inputs) (has s others) e)))
+
+    second-part : WentAll n deps others w₁ w₂
+    unfolding walkFrom
+    second-part = each-went n deps n (walk n deps) (walk-went n deps n) others w₁ (first-part .inv) (omega (arith, first-part .goes .fewer, count-replicate n))
+
+    only-these : Only p depend w₂
+    unfolding walkFrom
+    only-these =
+        each-only p depend (walk n deps) (walk-only p depend n) others (λ d e. or-right (has d inputs) (has d others) e) w₁
+        (each-only p depend emit (λ s w e o. mark-only p depend s w e o) inputs (λ d e. or-left (has d inputs) (has d others) e) (fresh n)
+        (λ x l v. never v (fresh-new n deps x l)))
+
+    pub walked-once : OnceAfter [] (w₂ .result)
+    walked-once = second-part .inv .once
+
+    reached : (x : ℕ) → p x ≡ true → isVisited w₂ x ≡ true
+    reached x e = either (has x inputs)
+        (λ g. second-part .goes .grown x (first-part .there x g))
+        (λ g. second-part .there x (sym (or-none (has x inputs) (has x others) g) ∙ e))
+
+    pub walked-all : (x : ℕ) → has x (w₂ .result) ≡ p x
+    walked-all x = either (p x)
+        (λ e. goes-on (fresh n) w₁ w₂ (first-part .goes) (second-part .goes) .closed x (fresh-new n deps x (small x e)) (reached x e) ∙ sym e)
+        (λ e. either (has x (w₂ .result))
+        (λ g. never (only-these x (second-part .inv .small x g) (second-part .inv .known x g)) e)
+        (λ g. g ∙ sym e))
+
+-- those of a list that is once are once
+has-those : (q : ℕ → Bool) (xs : List ℕ) (x : ℕ) → has x (those q xs) ≡ (has x xs && q x)
+unfolding has those
+has-those q [] x = refl
+has-those q (y ∷ xs) x = go (eqb x y) refl (q y) refl (has-those q xs x)
+  where
+    go : (e : Bool) → eqb x y ≡ e → (t : Bool) → q y ≡ t → has x (those q xs) ≡ (has x xs && q x)
+        → has x (cond t (y ∷ those q xs) (those q xs)) ≡ ((e || has x xs) && q x)
+    go true e true g ih = ap (λ b. b || has x (those q xs)) e ∙ sym (ap q (eqb-true x y e) ∙ g)
+    go true e false g ih = ih ∙ both (has x xs) (q x) (ap q (eqb-true x y e) ∙ g) ∙ sym (ap q (eqb-true x y e) ∙ g)
+      where
+        both : (a b : Bool) → b ≡ false → (a && b) ≡ false
+        both true b f = f
+        both false b f = refl
+    go false e true g ih = ap (λ b. b || has x (those q xs)) e ∙ ih
+    go false e false g ih = ih
+
+once-those : (q : ℕ → Bool) (before before′ xs : List ℕ) → ((x : ℕ) → has x before ≡ false → has x before′ ≡ false) → OnceAfter before xs
+    → OnceAfter before′ (those q xs)
+unfolding OnceAfter those
+once-those q before before′ [] f o = tt
+once-those q before before′ (y ∷ xs) f o = go (q y) (λ b g. once-those q (before ++ (y ∷ [])) b xs g (o .1))
+  where
+    not-before : (x : ℕ) → has x (before ++ (y ∷ [])) ≡ false → has x before ≡ false
+    not-before x e = either (has x before) (λ g. never (has-append x before (y ∷ []) ∙ or-left (has x before) _ g) e) (λ g. g)
+
+    not-y : (x : ℕ) → has x (before ++ (y ∷ [])) ≡ false → x ≡ y → ⊥
+    not-y x e g = true≢false (sym (ap (λ z. has z (before ++ (y ∷ []))) g ∙ has-snoc-same before y) ∙ e)
+
+    go : (t : Bool) → ((b : List ℕ) → ((x : ℕ) → has x (before ++ (y ∷ [])) ≡ false → has x b ≡ false) → OnceAfter b (those q xs))
+        → OnceAfter before′ (cond t (y ∷ those q xs) (those q xs))
+    go true ih = (f y (o .0), ih (before′ ++ (y ∷ [])) (λ x e. has-snoc-other x before′ y (not-y x e) ∙ f x (not-before x e)))
+    go false ih = ih before′ (λ x e. f x (not-before x e))
+
+slots-small : (n s : ℕ) → has s (slots n) ≡ true → s < n
+unfolding tabulate has
+slots-small zero s h = absurd (false≢true h)
+slots-small (suc n) s h =
+    let ih : has s (slots n) ≡ true → s < n = slots-small n s in
+    has-snoc s (slots n) n h (λ e. omega (arith, e)) (λ e. let l : s < n = ih e in omega arith)
+
+slots-once : (n : ℕ) → OnceAfter [] (slots n)
+unfolding tabulate OnceAfter
+slots-once zero = tt
+slots-once (suc n) =
+    once-snoc [] (slots n) n (slots-once n) (either (has n (slots n)) (λ e. absurd (omega (arith, slots-small n n e))) (λ e. e))
+
+-- the law: where the cells that a cell reads are cells of the netlist other than outputs, each cell stands once
+module _ (d : Netlist) (sizes : length (d .bits) ≡ length (d .cells)) where
+  abbrev starts : List ℕ
+  starts = iterCells (d .bits)
+
+  abbrev inputs : List ℕ
+  inputs = those (λ s. isInput (cellIn (d .cells) s)) starts
+
+  abbrev others : List ℕ
+  others = those (λ s. not (isOutput (cellIn (d .cells) s))) starts
+
+  abbrev outputs : List ℕ
+  outputs = those (λ s. isOutput (cellIn (d .cells) s)) starts
+
+  starts-once : OnceAfter [] starts
+  unfolding iterCells
+  starts-once = once-those (λ s. eqb (getD (d .bits) s 0) 0) [] [] (slots (length (d .bits))) (λ x e. e) (slots-once (length (d .bits)))
+
+  starts-small : (x : ℕ) → has x starts ≡ true → x < length (d .cells)
+  unfolding iterCells
+  starts-small x h =
+      omega (arith, sizes, slots-small (length (d .bits)) x (and-first (has x (slots (length (d .bits)))) _ (sym (has-those (λ s. eqb (getD (d .bits) s 0) 0) (slots (length (d .bits))) x) ∙ h)))
+    where
+      and-first : (a b : Bool) → (a && b) ≡ true → a ≡ true
+      and-first true b e = refl
+      and-first false b e = absurd (false≢true e)
+
+  -- an input is no output
+  in-not-out : (c : Cell) → isInput c ≡ true → isOutput c ≡ false
+  in-not-out (Input l) e = refl
+  in-not-out (Output a l) e = absurd (false≢true e)
+  in-not-out (Buf a) e = absurd (false≢true e)
+  in-not-out (Not a) e = absurd (false≢true e)
+  in-not-out (And a b) e = absurd (false≢true e)
+  in-not-out (Or a b) e = absurd (false≢true e)
+  in-not-out (Xor a b) e = absurd (false≢true e)
+  in-not-out (Mux a b c) e = absurd (false≢true e)
+  in-not-out (Aig p q) e = absurd (false≢true e)
+
+  parts : (x : ℕ) → ((has x inputs || has x others) ≡ (has x starts && not (isOutput (cellIn (d .cells) x)))) × (has x outputs ≡ (has x starts && isOutput (cellIn (d .cells) x)))
+  parts x = (
+    go (has x starts) (isInput (cellIn (d .cells) x)) (isOutput (cellIn (d .cells) x)) (in-not-out (cellIn (d .cells) x))
+        (has x inputs) (has x others) (has-those (λ s. isInput (cellIn (d .cells) s)) starts x) (has-those (λ s. not (isOutput (cellIn (d .cells) s))) starts x),
+    has-those (λ s. isOutput (cellIn (d .cells) s)) starts x,
+  )
+    where
+      go : (a i o : Bool) → (i ≡ true → o ≡ false) → (u v : Bool) → u ≡ (a && i) → v ≡ (a && not o) → (u || v) ≡ (a && not o)
+      go a i o h true true e f = f
+      go a i o h false v e f = f
+      go false i o h true false e f = absurd (true≢false e)
+      go true false o h true false e f = absurd (true≢false e)
+      go true true false h true false e f = absurd (false≢true f)
+      go true true true h true false e f = absurd (true≢false (h refl))
+
+  module _ (depend : (s x : ℕ) → has x (cellDeps d s) ≡ true → has x others ≡ true) where
+    abbrev reachable : ℕ → Bool
+    reachable x = has x inputs || has x others
+
+    reachable-small : (x : ℕ) → reachable x ≡ true → x < length (d .cells)
+    reachable-small x e = starts-small x (go (has x starts) _ (sym (parts x .0) ∙ e))
+      where
+        go : (a b : Bool) → (a && b) ≡ true → a ≡ true
+        go true b e = refl
+        go false b e = absurd (false≢true e)
+
+    inputs-once : OnceAfter [] inputs
+    inputs-once = once-those (λ s. isInput (cellIn (d .cells) s)) [] [] starts (λ x e. e) starts-once
+
+    reads : (s x : ℕ) → has x (cellDeps d s) ≡ true → reachable x ≡ true
+    reads s x e = or-right (has x inputs) (has x others) (depend s x e)
+
+    abbrev walkedCells : List ℕ
+    walkedCells = walkFrom (length (d .cells)) (cellDeps d) others (each emit inputs (fresh (length (d .cells)))) .result
+
+    members : (x : ℕ) → has x walkedCells ≡ reachable x
+    members = walked-all (length (d .cells)) (cellDeps d) inputs others inputs-once reachable-small reads
+
+    apart : (a o u v : Bool) → u ≡ (a && not o) → v ≡ (a && o) → v ≡ true → u ≡ false
+    apart true true u v e f g = e
+    apart true false u v e f g = never g f
+    apart false o u v e f g = e
+
+    pub iterCellsTopo-once : OnceAfter [] (iterCellsTopo d)
+    unfolding iterCellsTopo
+    iterCellsTopo-once =
+        once-both [] walkedCells outputs (walked-once (length (d .cells)) (cellDeps d) inputs others inputs-once reachable-small reads)
+        (λ x e. apart (has x starts) (isOutput (cellIn (d .cells) x)) (has x walkedCells) (has x outputs) (members x ∙ parts x .0) (parts x .1) e)
+        (once-those (λ s. isOutput (cellIn (d .cells) s)) [] [] starts (λ x e. e) starts-once)
+
+    pub iterCellsTopo-all : (x : ℕ) → has x (iterCellsTopo d) ≡ has x (iterCells (d .bits))
+    unfolding iterCellsTopo
+    iterCellsTopo-all x =
+        has-append x walkedCells outputs ∙ go (has x starts) (isOutput (cellIn (d .cells) x)) (has x walkedCells) (has x outputs) (members x ∙ parts x .0) (parts x .1)
+      where
+        go : (a o u v : Bool) → u ≡ (a && not o) → v ≡ (a && o) → (u || v) ≡ a
+        go true true u v e f = or-none u v e ∙ f
+        go true false u v e f = or-left u v e
+        go false o u v e f = or-none u v e ∙ f

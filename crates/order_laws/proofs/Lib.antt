@@ -1,0 +1,5 @@
+pub mod Walks
+pub mod Closed
+pub mod Bits
+pub mod Edges
+pub mod Cells

@@ -1,0 +1,1 @@
+// Laws of the orders: there is no code here.

@@ -1,0 +1,2 @@
+pub mod Rewriter
+pub mod Rewrite

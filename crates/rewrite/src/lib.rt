@@ -1,0 +1,1 @@
+// The rewriter, after netlist/src/rewrite.rs.

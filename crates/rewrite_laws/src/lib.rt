@@ -1,0 +1,1 @@
+// Laws of rewriting: there is no code here.

@@ -1,0 +1,1 @@
+// The paper's starred tickets: there is no code here.
