@@ -1,0 +1,1 @@
+// Theorems on folds in the bit order; no code.

@@ -1,0 +1,15 @@
+pub mod Lists
+pub mod Chosen
+pub mod Records
+pub mod Sound
+pub mod Keep
+pub mod Compact
+pub mod Stimulus
+pub mod Outputs
+pub mod Merge
+pub mod Merged
+pub mod Accepted
+pub mod Passing
+pub mod Bytes
+pub mod Tickets
+pub mod Calls

@@ -1,0 +1,147 @@
+-- The records of a sound netlist pass checking. Assumes nothing.
+use mathlib.Core.Path.{_≡_, refl, sym, ap, _∙_}
+use mathlib.Core.Bool.{Bool, true, false, _&&_}
+use mathlib.Core.List.{List, []}
+use Prim.Native.Nat.{ℕ, zero, suc, _-_, _<_}
+use native.Mathlib.Omega.{arith}
+use lib.Dec.{eqb}
+use lib.ListN.{length, getD}
+use borrow.Author.Tests.{lt-ltb}
+use Rattle.value.specs.declared.Net.{Net}
+use Rattle.value.specs.declared.ControlNet.the-variants.{Pos, Neg}
+use Rattle.value.specs.declared.Driver.{Driver}
+use Rattle.value.specs.declared.Driver.the-variants as driven
+use Rattle.value.specs.Value.{netAt, driver}
+use Rattle.cell.specs.declared.Record.{Record}
+use Rattle.cell.specs.declared.Cell.{Cell}
+use Rattle.cell.specs.declared.Cell.the-variants.{Input, Output, Buf, Not, And, Or, Xor, Mux, Aig}
+use Rattle.cell.specs.Kinds.{kindOf, fieldOf, isOperand, edgeAt}
+use Rattle.cell.specs.Records.{recordOf, recordIn, cellRecord}
+use Rattle.cell.proofs.Lists.{tabulate-length, tabulate-at}
+use Rattle.netlist.specs.Shape.{visit}
+use Rattle.netlist.specs.Netlist.{Netlist, cellIn, encode}
+use Rattle.loops.specs.Reach.{OnLoop}
+use Rattle.loops.proofs.Edges.{edge-below}
+use Rattle.loops.proofs.Reach.{onLoop-false}
+use Rattle.loops.proofs.Rank.{falls-no-loop}
+use Rattle.checking.specs.declared.Verdict.the-variants.{Pass}
+use Rattle.checking.specs.Refusals.{Stage, firstOf, slotBySlot}
+use Rattle.checking.specs.Checking.{unknownKind, reservedField, bitOutOfSequence, undriven, undrivenField, undrivenOperand, kindStage, fieldStage, bitStage, operandStage, loopStage, recordStages, loopStages, netlistStages}
+use Rattle.checking.proofs.Stages.{first-passes, no-stage, later-decides}
+use Rattle.levels_laws.specs.Algebra.{All, Before, Ranked}
+use Rattle.levels_laws.proofs.Operands.{all-imp, all-both}
+use Rattle.levels_laws.proofs.Edges.{FieldHas, fields-have, edges-have}
+use Rattle.kept.proofs.Records.{output-kind}
+use Rattle.kept.proofs.Sound as sound
+use Rattle.kept.proofs.Sound.{NoOutput, Sound}
+
+-- 4 and 5: the record of a cell has a kind, and its unused fields are 0
+known-kind : (bit : ℕ) (c : Cell) → unknownKind (cellRecord bit c) ≡ false
+unfolding unknownKind cellRecord kindOf
+known-kind bit (Input l) = refl
+known-kind bit (Output a l) = refl
+known-kind bit (Buf a) = refl
+known-kind bit (Not a) = refl
+known-kind bit (And a b) = refl
+known-kind bit (Or a b) = refl
+known-kind bit (Xor a b) = refl
+known-kind bit (Mux a b c) = refl
+known-kind bit (Aig p q) = refl
+
+unused-zero : (bit : ℕ) (c : Cell) → reservedField (cellRecord bit c) ≡ false
+unfolding reservedField cellRecord kindOf
+unused-zero bit (Input l) = refl
+unused-zero bit (Output a l) = refl
+unused-zero bit (Buf a) = refl
+unused-zero bit (Not a) = refl
+unused-zero bit (And a b) = refl
+unused-zero bit (Or a b) = refl
+unused-zero bit (Xor a b) = refl
+unused-zero bit (Mux a b c) = refl
+unused-zero bit (Aig (Pos a) (Pos b)) = refl
+unused-zero bit (Aig (Pos a) (Neg b)) = refl
+unused-zero bit (Aig (Neg a) (Pos b)) = refl
+unused-zero bit (Aig (Neg a) (Neg b)) = refl
+
+-- 7
+module _ (rs : List Record) where
+  field-driven : (r : Record) (f : ℕ) → FieldHas (λ n. undriven rs (driver n) ≡ false) r f → undrivenField rs r f ≡ false
+  unfolding undrivenField
+  field-driven r f h = go (isOperand r f) refl
+    where
+      go : (b : Bool) → isOperand r f ≡ b → (b && undriven rs (driver (netAt (fieldOf r f)))) ≡ false
+      go true e = h e
+      go false e = refl
+
+  cell-driven : (bit : ℕ) (c : Cell) → All (λ n. undriven rs (driver n) ≡ false) (visit c) → undrivenOperand rs (cellRecord bit c) ≡ false
+  unfolding undrivenOperand
+  cell-driven bit c h =
+      let g = fields-have (λ n. undriven rs (driver n) ≡ false) bit c h in
+      let r : Record = cellRecord bit c in
+      rw (field-driven r 1 (g .0), field-driven r 2 (g .1), field-driven r 3 (g .2))
+
+-- slot by slot
+all-pass : (stages : ℕ → List Stage) (n : ℕ) → ((i : ℕ) → i < n → firstOf (stages i) ≡ Pass) → firstOf (slotBySlot stages n) ≡ Pass
+unfolding slotBySlot
+all-pass stages zero h = no-stage
+all-pass stages (suc n) h = later-decides (slotBySlot stages n) (stages n) (all-pass stages n (λ i l. h i (omega arith))) ∙ h n (omega arith)
+
+module _ (d : Netlist) (rank : ℕ → ℕ) (good : Sound d rank) where
+  abbrev rs : List Record
+  rs = encode d
+
+  pub encode-length : length rs ≡ length (d .cells)
+  unfolding encode
+  encode-length = tabulate-length (sound.recordIn d) (length (d .cells))
+
+  pub encode-at : (s : ℕ) → s < length (d .cells) → recordIn rs s ≡ sound.recordIn d s
+  unfolding encode
+  encode-at s l = tabulate-at (sound.recordIn d) (length (d .cells)) (recordOf 0 0 0 0 0 0) s l
+
+  net-driven : (s : ℕ) (n : Net) → Before (d .cells) rank s n × NoOutput (d .cells) n → undriven rs (driver n) ≡ false
+  net-driven s n o = go (driver n) refl
+    where
+      go : (r : Driver) → driver n ≡ r → undriven rs r ≡ false
+      go (driven.Const t) e = refl
+      go (driven.Cell x) e =
+          let i : x .0 < length (d .cells) = o .0 x e .0 in
+          let l : length rs ≡ length (d .cells) = encode-length in
+          rw (lt-ltb (x .0) (length rs) (omega arith))
+          (ap (λ (r : Record). eqb (r .kind) 2) (encode-at (x .0) i)
+          ∙ sym (output-kind (getD (d .bits) (x .0) 0) (cellIn (d .cells) (x .0))) ∙ o .1 x e)
+
+  operands-driven : (s : ℕ) → s < length (d .cells) → undrivenOperand rs (sound.recordIn d s) ≡ false
+  unfolding Ranked
+  operands-driven s l =
+      cell-driven rs (getD (d .bits) s 0) (cellIn (d .cells) s)
+      (all-imp (λ n. Before (d .cells) rank s n × NoOutput (d .cells) n) (λ n. undriven rs (driver n) ≡ false) (net-driven s) (visit (cellIn (d .cells) s))
+      (all-both (Before (d .cells) rank s) (NoOutput (d .cells)) (visit (cellIn (d .cells) s)) (good .ranked s l) (good .driven s l)))
+
+  no-loop : (s : ℕ) → OnLoop rs s → ⊥
+  unfolding Ranked
+  no-loop =
+      falls-no-loop rs rank λ s f x e.
+      let l : s < length (d .cells) = let q : length rs ≡ length (d .cells) = encode-length in let m : s < length rs = edge-below rs s f x e in omega arith in
+      edges-have (λ y. (y .0 < length (d .cells)) × (rank (y .0) < rank s)) (getD (d .bits) s 0) (cellIn (d .cells) s) (good .ranked s l) f x
+      (ap (λ (r : Record). edgeAt r f) (sym (encode-at s l)) ∙ e) .1
+
+  record-passes : (s : ℕ) → s < length rs → firstOf (recordStages rs s) ≡ Pass
+  unfolding recordStages bitOutOfSequence
+  record-passes s h =
+      let l : s < length (d .cells) = let q : length rs ≡ length (d .cells) = encode-length in omega arith in
+      let e : recordIn rs s ≡ sound.recordIn d s = encode-at s l in
+      first-passes (kindStage rs s) _ (ap unknownKind e ∙ known-kind (getD (d .bits) s 0) (cellIn (d .cells) s))
+      ∙ first-passes (fieldStage rs s) _ (ap reservedField e ∙ unused-zero (getD (d .bits) s 0) (cellIn (d .cells) s))
+      ∙ first-passes (bitStage rs s) _ (rw (encode-at (s - 1) (omega arith), e) (good .sequence s l))
+      ∙ first-passes (operandStage rs s) _ (ap (undrivenOperand rs) e ∙ operands-driven s l)
+      ∙ no-stage
+
+  loop-passes : (s : ℕ) → s < length rs → firstOf (loopStages rs s) ≡ Pass
+  unfolding loopStages
+  loop-passes s h = first-passes (loopStage rs s) [] (onLoop-false rs s (no-loop s)) ∙ no-stage
+
+  pub sound-passes : firstOf (netlistStages (encode d)) ≡ Pass
+  unfolding netlistStages
+  sound-passes =
+      later-decides (slotBySlot (recordStages rs) (length rs)) (slotBySlot (loopStages rs) (length rs)) (all-pass (recordStages rs) (length rs) record-passes)
+      ∙ all-pass (loopStages rs) (length rs) loop-passes

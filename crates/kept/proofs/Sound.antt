@@ -1,0 +1,175 @@
+-- A sound netlist: what checking asks of a ticket but its length, in terms of cells. Assumes nothing.
+use mathlib.Core.Path.{_≡_, refl, sym, ap, _∙_, subst}
+use mathlib.Core.Bool.{Bool, true, false, cond}
+use mathlib.Core.List.{List, [], _∷_}
+use Prim.Native.Nat.{ℕ, zero, suc, _+_, _-_, _≤_, _<_}
+use native.Mathlib.Omega.{arith}
+use native.Mathlib.Decide.{decLt}
+use lib.Dec.{eqb}
+use lib.ListN.{length, getD, drop, List·getD-eq-default}
+use lib.Seq.{getD-drop}
+use borrow.Author.Tests.{eqb-true, eqb-false, eq-eqb, ne-eqb}
+use Rattle.value.specs.declared.Net.{Net}
+use Rattle.value.specs.declared.Slot.{Slot}
+use Rattle.value.specs.declared.Driver.the-variants as driven
+use Rattle.value.specs.Value.{driver}
+use Rattle.cell.specs.declared.Record.{Record}
+use Rattle.cell.specs.declared.Cell.{Cell}
+use Rattle.cell.specs.Records.{cellRecord}
+use Rattle.netlist.specs.Shape.{visit, isOutput, hasEffects}
+use Rattle.netlist.specs.Netlist.{Netlist, cellIn, run, startOf, outputOf}
+use Rattle.checking.specs.Checking.{outOfSequence}
+use Rattle.order_laws.specs.Ordered.{has}
+use Rattle.levels_laws.specs.Algebra.{All, Ranked}
+use Rattle.kept.proofs.Lists.{has-tabulate, all-tabulate}
+use Rattle.kept.proofs.Records.{record-bit, input-kind, output-kind, Continues, continues}
+
+abbrev pub recordIn : Netlist → ℕ → Record
+recordIn d s = cellRecord (getD (d .bits) s 0) (cellIn (d .cells) s)
+
+-- a net that no output drives
+abbrev pub NoOutput : List Cell → Net → Type 0
+NoOutput cs n = (x : Slot) → driver n ≡ driven.Cell x → isOutput (cellIn cs (x .0)) ≡ false
+
+pub record Sound (d : Netlist) (rank : ℕ → ℕ) : Type 0 where
+  pub wide : length (d .bits) ≡ length (d .cells)
+  pub few : length (d .cells) ≤ 65536  -- so that each slot has a net, and each bit number 16 bits
+  pub ranked : Ranked (d .cells) rank
+  pub driven : (s : ℕ) → s < length (d .cells) → All (NoOutput (d .cells)) (visit (cellIn (d .cells) s))
+  pub sequence : (s : ℕ) → s < length (d .cells) → outOfSequence s (recordIn d (s - 1)) (recordIn d s) ≡ false
+
+-- a run of bits above 0
+run-long : (b : ℕ) (l : List ℕ) → ((j : ℕ) → j < b → getD l j 0 ≡ 0 → ⊥) → b ≤ run l
+unfolding run
+run-long zero l h = omega arith
+run-long (suc b) [] h = absurd (h 0 (omega arith) refl)
+run-long (suc b) (x ∷ l) h = go (eqb x 0) refl (run-long b l (λ j k. h (suc j) (omega arith)))
+  where
+    go : (c : Bool) → eqb x 0 ≡ c → b ≤ run l → suc b ≤ cond c 0 (suc (run l))
+    go true e r = absurd (h 0 (omega arith) (eqb-true x 0 e))
+    go false e r = omega arith
+
+run-above : (j : ℕ) (l : List ℕ) → j < run l → getD l j 0 ≡ 0 → ⊥
+unfolding run
+run-above j [] h e = absurd (omega arith)
+run-above zero (x ∷ l) h e = absurd (omega (arith, rw (eq-eqb x 0 e) at h))
+run-above (suc j) (x ∷ l) h e = go (eqb x 0) h (λ k. run-above j l k e)
+  where
+    go : (c : Bool) → suc j < cond c 0 (suc (run l)) → (j < run l → ⊥) → ⊥
+    go true k r = omega arith
+    go false k r = r (omega arith)
+
+-- the bits of a cell
+module _ (d : Netlist) (rank : ℕ → ℕ) (sound : Sound d rank) where
+  abbrev bitAt : ℕ → ℕ
+  bitAt s = getD (d .bits) s 0
+
+  pub record Inner (s : ℕ) : Type 0 where
+    pub later : 1 ≤ s
+    pub kind : recordIn d (s - 1) .kind ≡ recordIn d s .kind
+    pub bit : bitAt (s - 1) + 1 ≡ bitAt s
+
+  pub bit-continues : (s : ℕ) → s < length (d .cells) → (bitAt s ≡ 0 → ⊥) → Continues s (recordIn d (s - 1)) (recordIn d s)
+  bit-continues s l h =
+      continues s (recordIn d (s - 1)) (recordIn d s) (sound .sequence s l)
+      (ap (λ (i : ℕ). eqb i 0) (record-bit (bitAt s) (cellIn (d .cells) s)) ∙ ne-eqb (bitAt s) 0 h)
+
+  pub inner : (s : ℕ) → s < length (d .cells) → (bitAt s ≡ 0 → ⊥) → Inner s
+  inner s l h =
+      let c : Continues s (recordIn d (s - 1)) (recordIn d s) = bit-continues s l h in
+      record {
+        later = omega (arith, eqb-false s 0 (c .later));
+        kind = c .after .kind;
+        bit = ap (λ (i : ℕ). i + 1) (sym (record-bit (bitAt (s - 1)) (cellIn (d .cells) (s - 1)))) ∙ c .after .bit ∙ record-bit (bitAt s) (cellIn (d .cells) s);
+      }
+
+  bit-inside : (s : ℕ) → (bitAt s ≡ 0 → ⊥) → s < length (d .cells)
+  bit-inside s h = go (decLt s (length (d .cells)))
+    where
+      go : Dec (s < length (d .cells)) → s < length (d .cells)
+      go (yes l) = l
+      go (no l) = absurd (h (List·getD-eq-default (d .bits) 0 (let w : length (d .bits) ≡ length (d .cells) = sound .wide in omega arith)))
+
+  -- from a bit back to the start of its cell
+  pub record Back (b s : ℕ) : Type 0 where
+    pub enough : b ≤ s
+    pub at : (j : ℕ) → j ≤ b → bitAt (s - b + j) ≡ j
+    pub kind : recordIn d (s - b) .kind ≡ recordIn d s .kind
+
+  back : (b s : ℕ) → s < length (d .cells) → bitAt s ≡ b → Back b s
+  back zero s l e = record {
+    enough = omega arith;
+    at = λ j h. let q : j ≡ 0 = omega arith in subst (λ (i : ℕ). bitAt (s - 0 + i) ≡ i) (sym q) (ap bitAt (omega arith) ∙ e);
+    kind = ap (λ (i : ℕ). recordIn d i .kind) (omega arith);
+  }
+  back (suc b) s l e =
+      let i : Inner s = inner s l (λ z. omega arith) in
+      let f : 1 ≤ s = i .later in
+      let h : Back b (s - 1) = back b (s - 1) (omega arith) (let g : bitAt (s - 1) + 1 ≡ bitAt s = i .bit in omega arith) in
+      let m : b ≤ s - 1 = h .enough in
+      let q : s - 1 - b ≡ s - suc b = omega arith in
+      record {
+        enough = omega arith;
+        at = λ j k. go j k q (omega arith) (h .at) (decLt j (suc b));
+        kind = ap (λ (i : ℕ). recordIn d i .kind) (sym q) ∙ h .kind ∙ i .kind;
+      }
+    where
+      go : (j : ℕ) → j ≤ suc b → s - 1 - b ≡ s - suc b → suc b ≤ s → ((j : ℕ) → j ≤ b → bitAt (s - 1 - b + j) ≡ j) → Dec (j < suc b) → bitAt (s - suc b + j) ≡ j
+      go j k q n h (yes m) = ap (λ (i : ℕ). bitAt (i + j)) (sym q) ∙ h j (omega arith)
+      go j k q n h (no m) = let r : j ≡ suc b = omega arith in ap bitAt (omega arith) ∙ e ∙ sym r
+
+  module _ (s : ℕ) (l : s < length (d .cells)) where
+    abbrev start : ℕ
+    start = startOf (d .bits) s
+
+    to-start : Back (bitAt s) s
+    to-start = back (bitAt s) s l refl
+
+    pub bit-small : bitAt s ≤ s
+    bit-small = to-start .enough
+
+    pub start-inside : start < length (d .cells)
+    start-inside = omega arith
+
+    pub start-zero : bitAt start ≡ 0
+    start-zero = ap bitAt (omega arith) ∙ to-start .at 0 (omega arith)
+
+    pub start-kind : recordIn d start .kind ≡ recordIn d s .kind
+    start-kind = to-start .kind
+
+    pub start-has : has s (outputOf (d .bits) start) ≡ true
+    unfolding outputOf
+    start-has =
+        let e : bitAt s ≤ s = to-start .enough in
+        let long : bitAt s ≤ run (drop (start + 1) (d .bits)) =
+        run-long (bitAt s) (drop (start + 1) (d .bits))
+        (λ j k z. let a : bitAt (start + suc j) ≡ suc j = to-start .at (suc j) k in
+        let g : bitAt (start + suc j) ≡ 0 = ap bitAt (omega arith) ∙ sym (getD-drop (start + 1) (d .bits) j 0) ∙ z in omega arith) in
+        subst (λ (i : ℕ). has i (outputOf (d .bits) start) ≡ true) (let q : start + bitAt s ≡ s = omega arith in q)
+        (has-tabulate (λ i. start + i) (suc (run (drop (start + 1) (d .bits)))) (bitAt s) (omega arith))
+
+  -- the bits of the cell from a slot on
+  pub record Bit (s i : ℕ) : Type 0 where
+    pub inside : i < length (d .cells)
+    pub kind : recordIn d i .kind ≡ recordIn d s .kind
+
+  onward : (s : ℕ) → s < length (d .cells) → (j : ℕ) → j ≤ run (drop (s + 1) (d .bits)) → Bit s (s + j)
+  onward s l zero h = subst (Bit s) (let q : s ≡ s + 0 = omega arith in q) (record { inside = l; kind = refl })
+  onward s l (suc j) h =
+      let above : bitAt (s + suc j) ≡ 0 → ⊥ =
+      λ z. run-above j (drop (s + 1) (d .bits)) (omega arith) (getD-drop (s + 1) (d .bits) j 0 ∙ ap bitAt (omega arith) ∙ z) in
+      let inside : s + suc j < length (d .cells) = bit-inside (s + suc j) above in
+      record {
+        inside = inside;
+        kind = sym (inner (s + suc j) inside above .kind) ∙ ap (λ (i : ℕ). recordIn d i .kind) (omega arith) ∙ onward s l j (omega arith) .kind;
+      }
+
+  pub output-bits : (s : ℕ) → s < length (d .cells) → All (Bit s) (outputOf (d .bits) s)
+  unfolding outputOf
+  output-bits s l = all-tabulate (Bit s) (λ i. s + i) (suc (run (drop (s + 1) (d .bits)))) (λ j h. onward s l j (omega arith))
+
+  -- the sort of a cell is that of each of its bits
+  pub effects-by-kind : (s i : ℕ) → recordIn d i .kind ≡ recordIn d s .kind → hasEffects (cellIn (d .cells) i) ≡ hasEffects (cellIn (d .cells) s)
+  unfolding hasEffects
+  effects-by-kind s i e =
+      rw (input-kind (bitAt i) (cellIn (d .cells) i), output-kind (bitAt i) (cellIn (d .cells) i), input-kind (bitAt s) (cellIn (d .cells) s), output-kind (bitAt s) (cellIn (d .cells) s), e)

@@ -1,0 +1,1 @@
+// What compacting and merging keep: there is no code here.

@@ -1,0 +1,4 @@
+pub mod Operands
+pub mod Valuations
+pub mod Edges
+pub mod Levels

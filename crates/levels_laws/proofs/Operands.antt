@@ -1,0 +1,117 @@
+-- Operands of a cell: a cell's value follows from those of its operands. Assumes nothing.
+use mathlib.Core.Path.{_≡_, refl, sym, ap, ap₂, _∙_}
+use mathlib.Core.Bool.{false, true≢false}
+use mathlib.Core.List.{List, [], _∷_, map}
+use Prim.Native.Nat.{ℕ}
+use Rattle.logic.specs.declared.Trit.{Trit}
+use Rattle.value.specs.declared.Net.{Net}
+use Rattle.value.specs.declared.Slot.{Slot}
+use Rattle.value.specs.declared.ControlNet.{ControlNet}
+use Rattle.value.specs.declared.ControlNet.the-variants.{Pos, Neg}
+use Rattle.value.specs.declared.Driver.{Driver}
+use Rattle.value.specs.declared.Driver.the-variants as driven
+use Rattle.value.specs.Value.{driver, net}
+use Rattle.cell.specs.declared.Cell.{Cell}
+use Rattle.cell.specs.declared.Cell.the-variants.{Input, Output, Buf, Not, And, Or, Xor, Mux, Aig}
+use Rattle.netlist.specs.Shape.{visit, visitControl, visitMut, isInput}
+use Rattle.levels_laws.specs.Algebra.{Algebra, All, drivenValue, netValue, controlValue, cellValue}
+
+-- properties of each element
+pub all-imp : {A : Type 0} (P Q : A → Type 0) → ((x : A) → P x → Q x) → (xs : List A) → All P xs → All Q xs
+unfolding All
+all-imp P Q f [] h = tt
+all-imp P Q f (x ∷ xs) h = (f x (h .0), all-imp P Q f xs (h .1))
+
+pub all-every : {A : Type 0} (P : A → Type 0) → ((x : A) → P x) → (xs : List A) → All P xs
+unfolding All
+all-every P f [] = tt
+all-every P f (x ∷ xs) = (f x, all-every P f xs)
+
+pub all-both : {A : Type 0} (P Q : A → Type 0) (xs : List A) → All P xs → All Q xs → All (λ x. P x × Q x) xs
+unfolding All
+all-both P Q [] g h = tt
+all-both P Q (x ∷ xs) g h = ((g .0, h .0), all-both P Q xs (g .1) (h .1))
+
+pub all-map : {A B : Type 0} (f : A → B) (P : B → Type 0) (xs : List A) → All (λ x. P (f x)) xs → All P (map f xs)
+unfolding All
+all-map f P [] h = tt
+all-map f P (x ∷ xs) h = (h .0, all-map f P xs (h .1))
+
+net-visit : (f : Net → Net) (p : ControlNet) → net (visitControl f p) ≡ f (net p)
+net-visit f (Pos n) = refl
+net-visit f (Neg n) = refl
+
+pub visit-visitMut : (f : Net → Net) (c : Cell) → visit (visitMut f c) ≡ map f (visit c)
+unfolding visit visitMut
+visit-visitMut f (Input l) = refl
+visit-visitMut f (Output a l) = refl
+visit-visitMut f (Buf a) = refl
+visit-visitMut f (Not a) = refl
+visit-visitMut f (And a b) = refl
+visit-visitMut f (Or a b) = refl
+visit-visitMut f (Xor a b) = refl
+visit-visitMut f (Mux a b c) = refl
+visit-visitMut f (Aig p q) = ap₂ (λ (x y : Net). x ∷ y ∷ []) (net-visit f p) (net-visit f q)
+
+module _ {A : Type 0} (alg : Algebra A) where
+  pub value-const : (v : ℕ → A) (n : Net) (t : Trit) → driver n ≡ driven.Const t → netValue alg v n ≡ alg .const t
+  unfolding netValue
+  value-const v n t e = ap (drivenValue alg v) e
+
+  pub value-slot : (v : ℕ → A) (n : Net) (x : Slot) → driver n ≡ driven.Cell x → netValue alg v n ≡ v (x .0)
+  unfolding netValue
+  value-slot v n x e = ap (drivenValue alg v) e
+
+  -- two valuations agree on a net if they agree on the slot that drives it
+  pub value-same : (u v : ℕ → A) (n : Net) → ((x : Slot) → driver n ≡ driven.Cell x → u (x .0) ≡ v (x .0)) → netValue alg u n ≡ netValue alg v n
+  value-same u v n h = go (driver n) refl
+    where
+      go : (d : Driver) → driver n ≡ d → netValue alg u n ≡ netValue alg v n
+      go (driven.Const t) e = value-const u n t e ∙ sym (value-const v n t e)
+      go (driven.Cell x) e = value-slot u n x e ∙ h x e ∙ sym (value-slot v n x e)
+
+  control-same : (u v : Net → A) (p : ControlNet) → u (net p) ≡ v (net p) → controlValue alg u p ≡ controlValue alg v p
+  control-same u v (Pos n) e = e
+  control-same u v (Neg n) e = ap (alg .not) e
+
+  pub cell-same : (u v : Net → A) (own : A) (c : Cell) → All (λ n. u n ≡ v n) (visit c) → cellValue alg u own c ≡ cellValue alg v own c
+  unfolding All visit cellValue
+  cell-same u v own (Input l) h = refl
+  cell-same u v own (Output a l) h = ap (alg .output) (h .0)
+  cell-same u v own (Buf a) h = ap (alg .buf) (h .0)
+  cell-same u v own (Not a) h = ap (alg .not) (h .0)
+  cell-same u v own (And a b) h = ap₂ (alg .and) (h .0) (h .1 .0)
+  cell-same u v own (Or a b) h = ap₂ (alg .or) (h .0) (h .1 .0)
+  cell-same u v own (Xor a b) h = ap₂ (alg .xor) (h .0) (h .1 .0)
+  cell-same u v own (Mux a b c) h = ap₂ (λ (x y : A). alg .mux x y (u c)) (h .0) (h .1 .0) ∙ ap (alg .mux (v a) (v b)) (h .1 .1 .0)
+  cell-same u v own (Aig p q) h = ap₂ (alg .and) (control-same u v p (h .0)) (control-same u v q (h .1 .0))
+
+  control-visit : (v : Net → A) (f : Net → Net) (p : ControlNet) → controlValue alg v (visitControl f p) ≡ controlValue alg (λ n. v (f n)) p
+  control-visit v f (Pos n) = refl
+  control-visit v f (Neg n) = refl
+
+  -- a function put to each operand
+  pub cell-visitMut : (v : Net → A) (f : Net → Net) (own : A) (c : Cell) → cellValue alg v own (visitMut f c) ≡ cellValue alg (λ n. v (f n)) own c
+  unfolding visitMut cellValue
+  cell-visitMut v f own (Input l) = refl
+  cell-visitMut v f own (Output a l) = refl
+  cell-visitMut v f own (Buf a) = refl
+  cell-visitMut v f own (Not a) = refl
+  cell-visitMut v f own (And a b) = refl
+  cell-visitMut v f own (Or a b) = refl
+  cell-visitMut v f own (Xor a b) = refl
+  cell-visitMut v f own (Mux a b c) = refl
+  cell-visitMut v f own (Aig p q) = ap₂ (alg .and) (control-visit v f p) (control-visit v f q)
+
+  -- an input alone has a value of its own
+  pub cell-own : (v : Net → A) (x y : A) (c : Cell) → isInput c ≡ false → cellValue alg v x c ≡ cellValue alg v y c
+  unfolding cellValue
+  cell-own v x y (Input l) e = absurd (true≢false e)
+  cell-own v x y (Output a l) e = refl
+  cell-own v x y (Buf a) e = refl
+  cell-own v x y (Not a) e = refl
+  cell-own v x y (And a b) e = refl
+  cell-own v x y (Or a b) e = refl
+  cell-own v x y (Xor a b) e = refl
+  cell-own v x y (Mux a b c) e = refl
+  cell-own v x y (Aig p q) e = refl

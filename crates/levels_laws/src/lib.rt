@@ -1,0 +1,1 @@
+// Laws of valuations: there is no code here.

@@ -1,0 +1,28 @@
+-- `ticket::merge_call::load_merged` meets its contract. Assumes nothing.
+use Rattle.ticket.proofs.Merge.{loaded-sequenced, merged-loads}
+use borrow.Author.Needs.{needs}
+use Rattle.ticket.proofs.merge_call.load_merged.Statement.{statement}
+use Rattle.ticket.proofs.merge_call.load_merged.Tie as tie
+use Rattle.ticket.proofs.merge_call.load_merged.Reads as reads
+use Rattle.ticket.proofs.merge_call.load_merged.Lts as lts
+use Rattle.merge.proofs.merge.Reads as merge-reads
+use Rattle.netlist.proofs.load.Reads as load-reads
+
+-- src/merging.rt:34:5
+load-requires : tie.Need-load-requires
+load-requires c κs = search needs
+
+-- src/merging.rt:35:5
+merge-requires : tie.Need-merge-requires
+merge-requires c κs = (search needs, (search needs, search loaded-sequenced))
+
+-- src/merging.rt:27:1
+same-length : tie.Need-same-length
+same-length c = search needs
+
+-- src/merging.rt:27:1
+returns : tie.Need-returns
+returns c = search merged-loads
+
+pub load-merged-spec : {M : Type 1} → statement M
+load-merged-spec = tie.close (tie.spec load-requires merge-requires same-length returns)

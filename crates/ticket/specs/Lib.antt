@@ -1,0 +1,3 @@
+pub mod Delivery
+pub mod Merge
+pub mod Levels

@@ -1,0 +1,41 @@
+-- What the parts of the call of merge tell. Assumes nothing: these are definitions.
+use mathlib.Core.Path.{_≡_}
+use mathlib.Core.Bool.{Bool}
+use mathlib.Core.List.{List}
+use Prim.Native.Nat.{ℕ}
+use lib.ListN.{length, drop}
+use Rattle.cell.specs.Limits.{workWords}
+use Rattle.netlist.specs.Areas.{recordsIn}
+use Rattle.netlist.specs.Netlist.{netlistOf}
+use Rattle.design.specs.Compact.{compact}
+use Rattle.merge.specs.Merge.{merge}
+use Rattle.calls.specs.declared.Written.{Written}
+use Rattle.calls.specs.declared.Written.the-variants as written
+use Rattle.calls.specs.declared.Merged.{Merged}
+use Rattle.calls.specs.declared.Merged.the-variants as merged
+use Rattle.calls.specs.Answers.{mergedBy}
+use Rattle.calls.specs.Calls.{decoded, replyAfter, mergeBytes, mergeAnswer, mergeReply}
+use Rattle.ticket.specs.Delivery.{roomVerdict}
+
+-- the answer of a netlist written, and the changed flag
+abbrev pub withFlag : Written → Bool → Merged
+withFlag (written.Accepted bytes) changed = merged.Accepted bytes changed
+withFlag (written.Refused x) changed = merged.Refused x
+
+-- the records of a ticket were loaded and merged
+pub record LoadsMerged (t : List ℕ) (n : ℕ) (ws ws′ : List ℕ) (r : Bool) : Type 0 where
+  pub result : compact (netlistOf (recordsIn n ws′)) ≡ merge (decoded t) .0
+  pub flag : r ≡ merge (decoded t) .1
+  pub rest : drop workWords ws′ ≡ drop workWords ws
+
+-- a ticket that passed was merged into the reply, if there is room
+pub record DeliversMerged (t ws ws′ reply reply′ : List ℕ) (r : Merged) : Type 0 where
+  pub answer : r ≡ mergedBy (roomVerdict reply (mergeBytes t)) (length (mergeBytes t)) (merge (decoded t) .1)
+  pub content : reply′ ≡ replyAfter (roomVerdict reply (mergeBytes t)) reply (mergeBytes t)
+  pub rest : drop workWords ws′ ≡ drop workWords ws
+
+-- merging with a work slice that is long enough, up to the wiping
+pub record MergesTicket (t ws ws′ reply reply′ : List ℕ) (r : Merged) : Type 0 where
+  pub answer : r ≡ mergeAnswer (length ws) t reply
+  pub content : reply′ ≡ mergeReply (length ws) t reply
+  pub rest : drop workWords ws′ ≡ drop workWords ws

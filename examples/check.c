@@ -1,0 +1,18 @@
+/* Checks the ticket on standard input: `accepted RECORDS GATES`, or `refused NUMBER PLACE`. */
+#include <stdio.h>
+#include "cabbagetier.h"
+
+static uint8_t ticket[8209];
+static uint32_t work[16384];
+
+int main(void)
+{
+    uint32_t answer[8];
+    size_t len = fread(ticket, 1, sizeof ticket, stdin);
+    uint32_t number = cabbagetier_check(ticket, len, work, 16384, answer);
+    if (number == 0)
+        printf("accepted %u %u\n", answer[1], answer[2]);
+    else
+        printf("refused %u %u\n", number, answer[0]);
+    return 0;
+}
