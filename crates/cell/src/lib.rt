@@ -1,11 +1,12 @@
 // Records of a ticket and one-bit cells, after cell.rs. A record is read out of the ticket's bytes and
-// written into a reply; every reader and writer here is total, so that nothing above has an index to prove.
+// written into a reply. Readers and writers of single bytes and words are total, so that nothing above has
+// an index to prove; a record is read of a slot that the ticket has, without a test at each byte.
 use value::ControlNet;
 use value::Driver;
 use value::Net;
 use value::Slot;
 ghost use mathlib.Core.Path.{_≡_};
-ghost use Prim.Native.Nat.{_+_, _*_, _≤_, _<_};
+ghost use Prim.Native.Nat.{_+_, _*_, _/_, _≤_, _<_};
 ghost use lib.ListN.{length, getD, set};
 ghost use lib.Seq.{sets};
 ghost use Rattle.cell.specs.Bytes.{word16, word32, store16, store32};
@@ -130,32 +131,6 @@ fn inside32(s: &[u8], i: usize) -> u32
     b0 + 256 * (b1 + 256 * (b2 + 256 * b3))
 }
 
-fn read16(s: &[u8], i: usize) -> u16
-    requires { ⌜ i < 1099511627776 ⌝ }
-    ensures { λ r. ⌜ r ≡ word16 (now (s .entry)) i ⌝ }
-{
-    if i + 2 <= s.len() {
-        return inside16(s, i);
-    }
-    let low = byte(s, i) as u16;
-    let high = byte(s, i + 1) as u16;
-    low + 256 * high
-}
-
-fn read32(s: &[u8], i: usize) -> u32
-    requires { ⌜ i < 1099511627776 ⌝ }
-    ensures { λ r. ⌜ r ≡ word32 (now (s .entry)) i ⌝ }
-{
-    if i + 4 <= s.len() {
-        return inside32(s, i);
-    }
-    let b0 = wide(byte(s, i));
-    let b1 = wide(byte(s, i + 1));
-    let b2 = wide(byte(s, i + 2));
-    let b3 = wide(byte(s, i + 3));
-    b0 + 256 * (b1 + 256 * (b2 + 256 * b3))
-}
-
 fn write16(s: &mut [u8], i: usize, v: u16)
     requires { ⌜ i < 1099511627776 ⌝ }
     ensures { λ _. ⌜ now (s .exit) ≡ store16 (now (s .entry)) i v ⌝ }
@@ -174,26 +149,80 @@ fn write32(s: &mut [u8], i: usize, v: u32)
     put_byte(s, i + 3, (v / 16777216 % 256) as u8);
 }
 
-// The record of a slot.
+// The same where all bytes lie in the slice.
+fn set_inside(s: &mut [u8], i: usize, v: u8)
+    requires { ⌜ i < length (now s) ⌝ }
+    ensures { λ _. ⌜ now (s .exit) ≡ set (now (s .entry)) i v ⌝ }
+{
+    s[i] = v;
+}
+
+fn set16(s: &mut [u8], i: usize, v: u16)
+    requires { ⌜ i + 2 ≤ length (now s) ⌝ }
+    ensures { λ _. ⌜ now (s .exit) ≡ store16 (now (s .entry)) i v ⌝ }
+{
+    set_inside(s, i, (v % 256) as u8);
+    set_inside(s, i + 1, (v / 256 % 256) as u8);
+}
+
+fn set32(s: &mut [u8], i: usize, v: u32)
+    requires { ⌜ i + 4 ≤ length (now s) ⌝ }
+    ensures { λ _. ⌜ now (s .exit) ≡ store32 (now (s .entry)) i v ⌝ }
+{
+    set_inside(s, i, (v % 256) as u8);
+    set_inside(s, i + 1, (v / 256 % 256) as u8);
+    set_inside(s, i + 2, (v / 65536 % 256) as u8);
+    set_inside(s, i + 3, (v / 16777216 % 256) as u8);
+}
+
+// The record of a slot of the ticket.
 pub fn record_at(t: &[u8], s: Slot) -> Record
+    requires { ⌜ s .0 < length (now t) / 16 ⌝ }
     ensures { λ r. ⌜ r ≡ recordAt (now (t .entry)) (s .0) ⌝ }
 {
     let i = (s.0 as usize) * 16;
     Record {
-        kind: byte(t, i),
-        flags: byte(t, i + 1),
-        bit: read16(t, i + 2),
-        a: read32(t, i + 4),
-        b: read32(t, i + 8),
-        c: read32(t, i + 12),
+        kind: inside(t, i),
+        flags: inside(t, i + 1),
+        bit: inside16(t, i + 2),
+        a: inside32(t, i + 4),
+        b: inside32(t, i + 8),
+        c: inside32(t, i + 12),
     }
 }
 
-// The kind byte of a slot.
+// The kind byte of a slot of the ticket.
 pub fn kind_at(t: &[u8], s: Slot) -> u8
+    requires { ⌜ s .0 < length (now t) / 16 ⌝ }
     ensures { λ r. ⌜ r ≡ recordAt (now (t .entry)) (s .0) .kind ⌝ }
 {
-    byte(t, (s.0 as usize) * 16)
+    inside(t, (s.0 as usize) * 16)
+}
+
+// Writes the 16 bytes of a record, all of which lie in the slice.
+fn store_inside(reply: &mut [u8], i: usize, r: Record)
+    requires { ⌜ i + 16 ≤ length (now reply) ⌝ }
+    ensures { λ _. ⌜ now (reply .exit) ≡ sets (now (reply .entry)) i (bytesOf r) ⌝ }
+{
+    set_inside(reply, i, r.kind);
+    set_inside(reply, i + 1, r.flags);
+    set16(reply, i + 2, r.bit);
+    set32(reply, i + 4, r.a);
+    set32(reply, i + 8, r.b);
+    set32(reply, i + 12, r.c);
+}
+
+// The same with a test at each byte.
+fn store_torn(reply: &mut [u8], i: usize, r: Record)
+    requires { ⌜ i < 549755813888 ⌝ }
+    ensures { λ _. ⌜ now (reply .exit) ≡ sets (now (reply .entry)) i (bytesOf r) ⌝ }
+{
+    put_byte(reply, i, r.kind);
+    put_byte(reply, i + 1, r.flags);
+    write16(reply, i + 2, r.bit);
+    write32(reply, i + 4, r.a);
+    write32(reply, i + 8, r.b);
+    write32(reply, i + 12, r.c);
 }
 
 // Writes a record's 16 bytes into a slot of a reply; what lies past the reply's end is left out.
@@ -201,12 +230,11 @@ pub fn write_record(reply: &mut [u8], s: Slot, r: Record)
     ensures { λ _. ⌜ now (reply .exit) ≡ sets (now (reply .entry)) (s .0 * 16) (bytesOf r) ⌝ }
 {
     let i = (s.0 as usize) * 16;
-    put_byte(reply, i, r.kind);
-    put_byte(reply, i + 1, r.flags);
-    write16(reply, i + 2, r.bit);
-    write32(reply, i + 4, r.a);
-    write32(reply, i + 8, r.b);
-    write32(reply, i + 12, r.c);
+    if i + 16 <= reply.len() {
+        store_inside(reply, i, r);
+    } else {
+        store_torn(reply, i, r);
+    }
 }
 
 fn row(a: Use, b: Use, c: Use, flags: u8, one_bit: bool, common_a: bool, gates: u32) -> Kind

@@ -24,6 +24,7 @@ use Rattle.loops.specs.declared.Found.the-variants.{At, Nothing}
 use Rattle.loops.specs.Reach.{onLoop}
 use Rattle.loops.specs.Search.{Searchable, Finds}
 use Rattle.loops.proofs.Edges.{edge-field, edge-below}
+use Rattle.loops.proofs.Lowest.{IsLowest, lowest-on-loop}
 use Rattle.checking.specs.declared.Refusal.{Refusal}
 use Rattle.checking.specs.declared.Refusal.the-variants.{PartialRecord, TooManyRecords, ShortWork, Loop}
 use Rattle.checking.specs.declared.Verdict.{Verdict}
@@ -114,13 +115,19 @@ module _ (t : List ℕ) (n : ℕ) (e : n ≡ length t / 16) (v : Verdict) (v-is 
     }
 
     module _ (ws ws′ : List ℕ) (r : Found) (found : Finds (recordsOf t) ws ws′ r) where
+      is-lowest : IsLowest (onLoop (recordsOf t)) (length (recordsOf t)) r
+      is-lowest = lowest-on-loop (recordsOf t) r .0 (found .found)
+
       pub loop-refuses : (s : Slot) → r ≡ At s → Refused (Loop s) ≡ firstOf (netlistStages (recordsOf t))
+      unfolding IsLowest
       loop-refuses s g =
-          let h : (s .0 < length (recordsOf t)) × (onLoop (recordsOf t) (s .0) ≡ true) × ((i : ℕ) → i < s .0 → onLoop (recordsOf t) i ≡ false) = found .at s g in
+          let h : IsLowest (onLoop (recordsOf t)) (length (recordsOf t)) (At s) = subst (IsLowest (onLoop (recordsOf t)) (length (recordsOf t))) g is-lowest in
           loops-decide (Refused (Loop s)) (lowest (recordsOf t) (length (recordsOf t)) s (h .0) (h .1) (h .2))
 
       pub loop-passes : r ≡ Nothing → Pass ≡ firstOf (netlistStages (recordsOf t))
-      loop-passes g = loops-decide Pass (free-below (recordsOf t) (length (recordsOf t)) (found .nothing g))
+      unfolding IsLowest
+      loop-passes g =
+          loops-decide Pass (free-below (recordsOf t) (length (recordsOf t)) (subst (IsLowest (onLoop (recordsOf t)) (length (recordsOf t))) g is-lowest))
 
       pub rest-kept : drop 16384 ws′ ≡ drop 16384 ws
       rest-kept = found .rest

@@ -7,13 +7,14 @@ use native.Mathlib.Omega.{arith}
 use native.Mathlib.Numerals.{add-one}
 use lib.Dec.{eqb, ltb}
 use lib.ListN.{length, getD}
-use borrow.Author.Tests.{lt-ltb, le-ltb}
+use borrow.Author.Tests.{lt-ltb, le-ltb, ne-eqb}
 use Rattle.value.specs.declared.Slot.{Slot}
 use Rattle.value.specs.declared.Driver.{Driver}
 use Rattle.value.specs.declared.Driver.the-variants as driven
 use Rattle.cell.specs.declared.Record.{Record}
 use Rattle.cell.specs.declared.Kind.{Kind}
-use Rattle.cell.specs.Kinds.{kindOf}
+use Rattle.value.specs.Value.{netAt, driver}
+use Rattle.cell.specs.Kinds.{kindOf, fieldOf, isOperand}
 use Rattle.cell.specs.Tabulate.{tabulate}
 use Rattle.cell.specs.Records.{recordAt, recordsOf, recordIn}
 use Rattle.cell.proofs.Laws.{gates-one}
@@ -23,7 +24,7 @@ use Rattle.checking.specs.declared.Refusal.the-variants.{UnknownKind, Re
 use Rattle.checking.specs.declared.Verdict.{Verdict}
 use Rattle.checking.specs.declared.Verdict.the-variants.{Pass, Refused}
 use Rattle.checking.specs.Refusals.{Stage, firstOf, slotBySlot}
-use Rattle.checking.specs.Checking.{unknownKind, reservedField, outOfSequence, bitOutOfSequence, undriven, undrivenOperand, recordStages, gateCount}
+use Rattle.checking.specs.Checking.{unknownKind, reservedField, follows, outOfSequence, bitOutOfSequence, undriven, undrivenField, undrivenOperand, recordStages, gateCount}
 use Rattle.checking.proofs.Stages.{first-refuses, first-passes, slots-more, slots-refused}
 
 -- an operand that names a slot past the last record, and one that names a record
@@ -33,6 +34,41 @@ module _ (t : List ℕ) (n : ℕ) (d : Driver) (s : Slot) (e : n ≡ length t / 
 
   pub undriven-kind : s .0 < n → (k : ℕ) → k ≡ recordAt t (s .0) .kind → eqb k 2 ≡ undriven (recordsOf t) d
   undriven-kind h k f = rw (q, records-length t, ← e, lt-ltb (s .0) n h, f, records-at t (s .0) (omega arith))
+
+-- the tests that look no further where they are decided
+module _ (s : ℕ) (p r : Record) where
+  pub bit-first : r .bit ≡ 0 → false ≡ outOfSequence s p r
+  unfolding outOfSequence
+  bit-first e = rw e
+
+  pub bit-later : (r .bit ≡ 0 → ⊥) → (k : Kind) → k ≡ kindOf (r .kind) → (w : Bool) → w ≡ follows p r → (x : Bool) → x ≡ eqb s 0 || not w
+      → (y : Bool) → y ≡ k .«one_bit» || x → y ≡ outOfSequence s p r
+  unfolding outOfSequence
+  bit-later d k k-is w w-is x x-is y y-is = rw (ne-eqb (r .bit) 0 d, ← k-is, ← w-is, ← x-is) y-is
+
+module _ (rs : List Record) (r : Record) where
+  module _ (f : ℕ) (b : Bool) (b-is : b ≡ isOperand r f) where
+    pub field-operand : b ≡ true → (k : ℕ) → k ≡ fieldOf r f → (d : Driver) → d ≡ driver (netAt k) → (x : Bool) → x ≡ undriven rs d → x ≡ undrivenField rs r f
+    unfolding undrivenField
+    field-operand e k k-is d d-is x x-is = rw (← b-is, e, ← k-is, ← d-is) x-is
+
+    pub field-other : b ≡ false → false ≡ undrivenField rs r f
+    unfolding undrivenField
+    field-other e = rw (← b-is, e)
+
+  module _ (x : Bool) (x-is : x ≡ undrivenField rs r 1) where
+    pub operand-a : x ≡ true → true ≡ undrivenOperand rs r
+    unfolding undrivenOperand
+    operand-a e = rw (← x-is, e)
+
+    module _ (x-no : x ≡ false) (y : Bool) (y-is : y ≡ undrivenField rs r 2) where
+      pub operand-b : y ≡ true → true ≡ undrivenOperand rs r
+      unfolding undrivenOperand
+      operand-b e = rw (← x-is, x-no, ← y-is, e)
+
+      pub operand-c : y ≡ false → (z : Bool) → z ≡ undrivenField rs r 3 → z ≡ undrivenOperand rs r
+      unfolding undrivenOperand
+      operand-c e z z-is = rw (← x-is, x-no, ← y-is, e) z-is
 
 -- the four tests of a record, in their order
 module _ (t : List ℕ) (n : ℕ) (s : Slot) (e : n ≡ length t / 16) (h : s .0 < n) (r : Record) (q : r ≡ recordAt t (s .0)) where

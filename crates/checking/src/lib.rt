@@ -113,11 +113,11 @@ fn follows(p: Record, r: Record) -> bool
 fn out_of_sequence(s: Slot, p: Record, r: Record) -> bool
     ensures { λ x. ⌜ x ≡ outOfSequence (s .0) p r ⌝ }
 {
+    if r.bit == 0 {
+        return false;
+    }
     let one_bit = cell::kind_of(r.kind).one_bit;
-    logic::both(
-        r.bit != 0,
-        logic::either(one_bit, logic::either(s.0 == 0, !follows(p, r))),
-    )
+    logic::either(one_bit, logic::either(s.0 == 0, !follows(p, r)))
 }
 
 // A net is no constant and either names no slot of the ticket or names an output's.
@@ -140,24 +140,28 @@ fn undriven_field(t: &[u8], n: u32, r: Record, f: u32) -> bool
     requires { ⌜ n ≡ length (now t) / 16 ⌝ }
     ensures { λ x. ⌜ x ≡ undrivenField (recordsOf (now (t .entry))) r f ⌝ }
 {
-    logic::both(
-        cell::is_operand(r, f),
-        undriven(t, n, Net(cell::field(r, f)).as_cell_index()),
-    )
+    if cell::is_operand(r, f) {
+        return undriven(t, n, Net(cell::field(r, f)).as_cell_index());
+    }
+    false
 }
 
 fn undriven_operand(t: &[u8], n: u32, r: Record) -> bool
     requires { ⌜ n ≡ length (now t) / 16 ⌝ }
     ensures { λ x. ⌜ x ≡ undrivenOperand (recordsOf (now (t .entry))) r ⌝ }
 {
-    logic::either(
-        undriven_field(t, n, r, 1),
-        logic::either(undriven_field(t, n, r, 2), undriven_field(t, n, r, 3)),
-    )
+    if undriven_field(t, n, r, 1) {
+        return true;
+    }
+    if undriven_field(t, n, r, 2) {
+        return true;
+    }
+    undriven_field(t, n, r, 3)
 }
 
 // The record before a slot; for slot 0, its own.
 fn record_before(t: &[u8], s: Slot) -> Record
+    requires { ⌜ s .0 < length (now t) / 16 ⌝ }
     ensures { λ r. ⌜ r ≡ recordAt (now (t .entry)) (s .0 - 1) ⌝ }
 {
     let i = s.0;

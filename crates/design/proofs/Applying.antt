@@ -2,31 +2,32 @@
 use mathlib.Core.Path.{_≡_, refl, sym, ap, ap₂, _∙_, subst}
 use mathlib.Core.Bool.{Bool, false, not, _||_}
 use mathlib.Core.List.{List, map}
-use Prim.Native.Nat.{ℕ, suc, _+_, _*_, _<_, _≤_}
+use Prim.Native.Nat.{ℕ, zero, suc, _+_, _*_, _<_, _≤_}
 use native.Mathlib.Omega.{arith}
 use native.Mathlib.Numerals.{add-one}
 use native.Mathlib.Decide.{decLt}
 use lib.ListN.{length}
 use Rattle.value.specs.declared.Net.{Net}
 use Rattle.value.specs.declared.ControlNet.the-variants.{Pos, Neg}
-use Rattle.value.specs.Value.{eqNet}
+use Rattle.value.specs.Value.{netAt, eqNet, driver}
 use Rattle.cell.specs.declared.Record.{Record}
 use Rattle.cell.specs.declared.Cell.{Cell}
 use Rattle.cell.specs.declared.Cell.the-variants.{Input, Output, Buf, Not, And, Or, Xor, Mux, Aig}
 use Rattle.cell.specs.Tabulate.{tabulate}
-use Rattle.cell.specs.Records.{cellOf, cellRecord}
+use Rattle.cell.specs.Records.{recordOf, cellOf, cellRecord}
 use Rattle.cell.proofs.RoundTrips.{cell-back}
 use Rattle.netlist.specs.Areas.{wordRecord, storeWords, recordsIn, Within}
 use Rattle.netlist.specs.Shape.{visit, visitMut}
 use Rattle.netlist.specs.Netlist.{Netlist, netlistOf, slots, anyOf}
 use Rattle.netlist.proofs.Frames.{within-none, within-then, within-wider, tabulate-same}
 use Rattle.netlist.proofs.Areas.{Sized, store-within, stored-same, stored-other}
-use Rattle.design.specs.declared.Renaming.the-variants.{Replaced}
-use Rattle.design.specs.Queue.{mapNetNew, applied, didChange, eqCell}
-use Rattle.design.specs.Words.{netlistIn, replacedIn, designIn, appliedIn, renamedRecord, changesIn, Applies}
+use Rattle.design.specs.Queue.{followed, mapNetNew, applied, didChange, eqRecord, eqCell}
+use Rattle.design.specs.Fields.{renamedFields}
+use Rattle.design.specs.Words.{netlistIn, replacedIn, designIn, appliedIn, renamedRecord, replacedRecord, changesIn, Applies}
 use Rattle.design.proofs.Lists.{any-more, any-table, map-table}
 use Rattle.design.proofs.Words.{replaced-kept}
 use Rattle.design.proofs.Replacing.{changed-is}
+use Rattle.design.proofs.Visiting.{renamed-plain}
 
 -- the record of a cell fits into its words
 sized : (bit : ℕ) → bit < 65536 → (c : Cell) → Sized (cellRecord bit c)
@@ -44,36 +45,55 @@ sized bit h (Aig (Pos a) (Neg b)) = record { kind = omega arith; flags = omega a
 sized bit h (Aig (Neg a) (Pos b)) = record { kind = omega arith; flags = omega arith; bit = h }
 sized bit h (Aig (Neg a) (Neg b)) = record { kind = omega arith; flags = omega arith; bit = h }
 
-bit-kept : (bit : ℕ) (c : Cell) → cellRecord bit c .bit ≡ bit
+-- the other fields do not depend on the bit
+at-bit : (bit : ℕ) (c : Cell) → cellRecord bit c ≡ recordOf (cellRecord 0 c .kind) (cellRecord 0 c .flags) bit (cellRecord 0 c .a) (cellRecord 0 c .b) (cellRecord 0 c .c)
 unfolding cellRecord
-bit-kept bit (Input l) = refl
-bit-kept bit (Output a l) = refl
-bit-kept bit (Buf a) = refl
-bit-kept bit (Not a) = refl
-bit-kept bit (And a b) = refl
-bit-kept bit (Or a b) = refl
-bit-kept bit (Xor a b) = refl
-bit-kept bit (Mux a b c) = refl
-bit-kept bit (Aig p q) = refl
+at-bit bit (Input l) = refl
+at-bit bit (Output a l) = refl
+at-bit bit (Buf a) = refl
+at-bit bit (Not a) = refl
+at-bit bit (And a b) = refl
+at-bit bit (Or a b) = refl
+at-bit bit (Xor a b) = refl
+at-bit bit (Mux a b c) = refl
+at-bit bit (Aig p q) = refl
+
+bit-kept : (bit : ℕ) (c : Cell) → cellRecord bit c .bit ≡ bit
+bit-kept bit c = ap (λ (r : Record). r .bit) (at-bit bit c)
+
+same-fields : (bit : ℕ) (c d : Cell) → eqRecord (cellRecord bit c) (cellRecord bit d) ≡ eqCell c d
+unfolding eqCell eqRecord
+same-fields bit c d = ap₂ eqRecord (at-bit bit c) (at-bit bit d)
+
+-- the constant zero is never replaced
+followed-zero : (k : ℕ) (rs : List Net) → followed k rs (netAt 0) ≡ netAt 0
+unfolding followed driver eqNet
+followed-zero zero rs = refl
+followed-zero (suc k) rs = refl
+
+pub replaced-zero : (rs : List Net) → mapNetNew rs (netAt 0) ≡ netAt 0
+unfolding mapNetNew
+replaced-zero rs = followed-zero (length rs) rs
 
 -- one slot
-module _ (n s : ℕ) (ws ws′ : List ℕ) (old : Cell) (old-is : old ≡ cellOf (wordRecord ws s)) (r : Record) (r-is : r ≡ renamedRecord Replaced n ws s) where
-  new-cell : cellOf r ≡ visitMut (mapNetNew (replacedIn n ws)) old
-  unfolding renamedRecord
-  new-cell = ap cellOf r-is ∙ cell-back (wordRecord ws s .bit) _ ∙ ap (visitMut (mapNetNew (replacedIn n ws))) (sym old-is)
+module _ (n s : ℕ) (ws ws′ : List ℕ) (q : Record) (q-is : q ≡ wordRecord ws s) (old : Record) (old-is : old ≡ cellRecord (q .bit) (cellOf q))
+    (r : Record) (r-is : r ≡ renamedFields (mapNetNew (replacedIn n ws)) old) where
+  new-record : r ≡ replacedRecord n ws s
+  new-record = r-is ∙ renamed-plain (mapNetNew (replacedIn n ws)) (replaced-zero (replacedIn n ws)) q old old-is ∙ ap (renamedRecord (mapNetNew (replacedIn n ws))) q-is
 
   old-bit : r .bit ≡ wordRecord ws s .bit
   unfolding renamedRecord
-  old-bit = ap (λ (q : Record). q .bit) r-is ∙ bit-kept (wordRecord ws s .bit) _
+  old-bit = ap (λ (p : Record). p .bit) new-record ∙ bit-kept (wordRecord ws s .bit) _
 
-  pub applies : ws′ ≡ storeWords ws s r → (new : Cell) → new ≡ cellOf r → (b : Bool) → b ≡ eqCell new old → r .bit < 65536 → Applies n s ws ws′ (not b)
-  unfolding changesIn
-  applies stored new new-is b b-is h = record {
-    stored = stored ∙ ap (storeWords ws s) r-is;
+  pub applies : ws′ ≡ storeWords ws s r → (b : Bool) → b ≡ eqRecord r old → r .bit < 65536 → Applies n s ws ws′ (not b)
+  unfolding changesIn renamedRecord
+  applies stored b b-is h = record {
+    stored = stored ∙ ap (storeWords ws s) new-record;
     bit = omega (arith, old-bit);
     changed =
-        ap not (b-is ∙ ap (λ (c : Cell). eqCell c old) (new-is ∙ new-cell)) ∙ sym (changed-is (mapNetNew (replacedIn n ws)) old)
-        ∙ ap (λ (c : Cell). anyOf (λ x. not (eqNet (mapNetNew (replacedIn n ws) x) x)) (visit c)) old-is;
+        let c : Cell = cellOf (wordRecord ws s) in
+        let f : Net → Net = mapNetNew (replacedIn n ws) in
+        ap not (b-is ∙ ap₂ eqRecord new-record (old-is ∙ ap (λ (p : Record). cellRecord (p .bit) (cellOf p)) q-is) ∙ same-fields (wordRecord ws s .bit) (visitMut f c) c) ∙ sym (changed-is f c);
   }
 
 -- slot after slot
@@ -81,7 +101,7 @@ pub record Applying (n : ℕ) (ws₀ ws : List ℕ) (changed : Bool) (s : ℕ) :
   pub upto : s ≤ n
   pub few : n ≤ 1024
   pub long : 16384 ≤ length ws₀
-  pub done : (u : ℕ) → u < s → wordRecord ws u ≡ renamedRecord Replaced n ws₀ u
+  pub done : (u : ℕ) → u < s → wordRecord ws u ≡ replacedRecord n ws₀ u
   pub left : (u : ℕ) → s ≤ u → wordRecord ws u ≡ wordRecord ws₀ u
   pub flag : changed ≡ anyOf (changesIn n ws₀) (slots s)
   pub frame : Within 0 4096 ws₀ ws
@@ -99,7 +119,7 @@ applying-none n ws few long = record {
 }
 
 module _ (n : ℕ) (ws₀ ws : List ℕ) (changed : Bool) (s : ℕ) (g : Applying n ws₀ ws changed s) where
-  same-record : renamedRecord Replaced n ws s ≡ renamedRecord Replaced n ws₀ s
+  same-record : replacedRecord n ws s ≡ replacedRecord n ws₀ s
   unfolding renamedRecord
   same-record = rw (g .left s (omega arith), replaced-kept n ws₀ ws (g .frame))
 
@@ -108,16 +128,16 @@ module _ (n : ℕ) (ws₀ ws : List ℕ) (changed : Bool) (s : ℕ) (g : Applyin
   same-change = rw (g .left s (omega arith), replaced-kept n ws₀ ws (g .frame))
 
   module _ (ws′ : List ℕ) (more : Bool) (a : Applies n s ws ws′ more) (l : s < n) where
-    stored-here : wordRecord ws′ s ≡ renamedRecord Replaced n ws₀ s
+    stored-here : wordRecord ws′ s ≡ replacedRecord n ws₀ s
     unfolding renamedRecord
     stored-here =
         let few : n ≤ 1024 = g .few in
         let long : 16384 ≤ length ws₀ = g .long in
         ap (λ (vs : List ℕ). wordRecord vs s) (a .stored)
-        ∙ stored-same ws s (renamedRecord Replaced n ws s) (omega (arith, g .frame .same)) (sized (wordRecord ws s .bit) (a .bit) _) ∙ same-record
+        ∙ stored-same ws s (replacedRecord n ws s) (omega (arith, g .frame .same)) (sized (wordRecord ws s .bit) (a .bit) _) ∙ same-record
 
     stored-there : (u : ℕ) → (u ≡ s → ⊥) → wordRecord ws′ u ≡ wordRecord ws u
-    stored-there u h = ap (λ (vs : List ℕ). wordRecord vs u) (a .stored) ∙ stored-other ws s (renamedRecord Replaced n ws s) u h
+    stored-there u h = ap (λ (vs : List ℕ). wordRecord vs u) (a .stored) ∙ stored-other ws s (replacedRecord n ws s) u h
 
     pub applying-more : (changed′ : Bool) → changed′ ≡ changed || more → Applying n ws₀ ws′ changed′ (s + 1)
     unfolding tabulate
@@ -132,12 +152,12 @@ module _ (n : ℕ) (ws₀ ws : List ℕ) (changed : Bool) (s : ℕ) (g : Applyin
           let few : n ≤ 1024 = g .few in
           within-then 0 4096 ws₀ ws ws′ (g .frame)
           (subst (λ (vs : List ℕ). Within 0 4096 ws vs) (sym (a .stored))
-          (within-wider (s * 4) (s * 4 + 4) 0 4096 ws (storeWords ws s (renamedRecord Replaced n ws s)) (omega arith) (omega arith) (store-within ws s (renamedRecord Replaced n ws s))));
+          (within-wider (s * 4) (s * 4 + 4) 0 4096 ws (storeWords ws s (replacedRecord n ws s)) (omega arith) (omega arith) (store-within ws s (replacedRecord n ws s))));
     }
       where
-        go : (u : ℕ) → u < s + 1 → Dec (u < s) → wordRecord ws′ u ≡ renamedRecord Replaced n ws₀ u
+        go : (u : ℕ) → u < s + 1 → Dec (u < s) → wordRecord ws′ u ≡ replacedRecord n ws₀ u
         go u m (yes k) = stored-there u (λ q. absurd (omega arith)) ∙ g .done u k
-        go u m (no k) = let q : s ≡ u = omega arith in subst (λ (v : ℕ). wordRecord ws′ v ≡ renamedRecord Replaced n ws₀ v) q stored-here
+        go u m (no k) = let q : s ≡ u = omega arith in subst (λ (v : ℕ). wordRecord ws′ v ≡ replacedRecord n ws₀ v) q stored-here
 
   module _ (end : n ≤ s) where
     new-cells : map cellOf (recordsIn n ws) ≡ map (visitMut (mapNetNew (replacedIn n ws₀))) (map cellOf (recordsIn n ws₀))

@@ -21,7 +21,7 @@ use Rattle.cell.specs.declared.Cell.the-variants.{Input}
 use Rattle.cell.specs.Tabulate.{tabulate}
 use Rattle.cell.specs.Records.{cellOf, cellRecord, bytesOf}
 use Rattle.cell.proofs.Laws.{sets-append}
-use Rattle.netlist.specs.Areas.{recordsIn, marksIn, visitedAt}
+use Rattle.netlist.specs.Areas.{wordRecord, recordsIn, marksIn, visitedAt}
 use Rattle.netlist.specs.Shape.{visitMut}
 use Rattle.netlist.specs.Netlist.{Netlist, slots, those, startOf, cellIn, joined, encode, ticketOf}
 use Rattle.order.specs.Descent.{bitsIn}
@@ -29,8 +29,9 @@ use Rattle.order.proofs.Bits.{those-append}
 use Rattle.order.proofs.Words.{marks-length}
 use Rattle.design.specs.Queue.{netIn}
 use Rattle.design.specs.Compact.{keep, isKept, keptSlots, countKept, netMap, compact}
-use Rattle.design.specs.declared.Renaming.the-variants.{Renumbered}
-use Rattle.design.specs.Words.{netlistIn, keptAt, keptIn, renamedRecord, keptBytes}
+use Rattle.design.specs.Words.{netlistIn, renumberedIn, Noted, keptAt, keptIn, renamedRecord, renumberedRecord, keptBytes}
+use Rattle.design.specs.Fields.{renamedFields}
+use Rattle.design.proofs.Visiting.{renamed-plain}
 use Rattle.design.proofs.Lists.{map-append, map-at, tabulate-map, map-those, ticket-append, ticket-length}
 use Rattle.design.proofs.Words.{bits-length, cells-length, bit-at, cell-at, mark-at}
 
@@ -78,53 +79,72 @@ module _ (bits : List ℕ) (marks : List Bool) where
             let m : n ≤ s = omega arith in
             count-more s ∙ ap (λ (b : Bool). countKept bits marks s + cond b 1 0) (past-kept s m) ∙ (let e : countKept bits marks s + 0 ≡ countKept bits marks s = omega arith in e) ∙ rec m
 
--- the loop of `count_kept`
-pub record Counting (n : ℕ) (ws : List ℕ) (s i count : ℕ) : Type 0 where
-  pub upto : i ≤ n
-  pub before : i ≤ s
+-- the loop of `count_to`, over the notes
+pub record Counting (n : ℕ) (ws : List ℕ) (m i count : ℕ) : Type 0 where
+  pub upto : i ≤ m
   pub few : count ≤ i
   pub counted : count ≡ keptIn n ws i
 
-pub counting-none : (n : ℕ) (ws : List ℕ) (s : ℕ) → Counting n ws s 0 0
-counting-none n ws s = record { upto = omega arith; before = omega arith; few = omega arith; counted = sym (count-none (netlistIn n ws .bits) (marksIn visitedAt n ws)) }
+pub counting-none : (n : ℕ) (ws : List ℕ) (m : ℕ) → Counting n ws m 0 0
+counting-none n ws m = record { upto = omega arith; few = omega arith; counted = sym (count-none (netlistIn n ws .bits) (marksIn visitedAt n ws)) }
 
 at-most-one : (b : Bool) → cond b 1 0 ≤ 1
 at-most-one true = omega arith
 at-most-one false = omega arith
 
-module _ (n : ℕ) (ws : List ℕ) (s i count : ℕ) (g : Counting n ws s i count) where
-  pub counting-more : i < n → i < s → (b : Bool) → b ≡ keptAt n ws i → (k : ℕ) → k ≡ cond b 1 0 → Counting n ws s (i + 1) (count + k)
-  counting-more l m b e k f = record {
-    upto = omega arith;
-    before = omega arith;
-    few = let u : count ≤ i = g .few in omega (arith, at-most-one b);
-    counted = rw (add-one i) (ap₂ _+_ (g .counted) (f ∙ ap (λ (c : Bool). cond c 1 0) e) ∙ sym (count-more (netlistIn n ws .bits) (marksIn visitedAt n ws) i));
-  }
+module _ (n : ℕ) (ws : List ℕ) (noted : Noted n ws) where
+  pub note-few : (i : ℕ) → i < n → getD ws (5120 + i) 0 ≤ 1
+  note-few i l = rw (noted .each i l) (at-most-one (keptAt n ws i))
 
-  pub counted-before : s ≤ i → count ≡ keptIn n ws s
-  counted-before h = g .counted ∙ ap (keptIn n ws) (let e : i ≡ s = let u : i ≤ s = g .before in omega arith in e)
+  module _ (m i count : ℕ) (g : Counting n ws m i count) where
+    pub counting-fits : m ≤ n → i < m → count + getD ws (5120 + i) 0 < 4294967296
+    counting-fits h l =
+        let few : n ≤ 1024 = noted .few in
+        let u : count ≤ i = g .few in omega (arith, note-few i (omega arith))
 
-  pub counted-all : n ≤ i → count ≡ keptIn n ws s
-  counted-all h =
-      g .counted ∙ ap (keptIn n ws) (let e : i ≡ n = let u : i ≤ n = g .upto in omega arith in e)
-      ∙ sym (count-past (netlistIn n ws .bits) (marksIn visitedAt n ws) n (omega (arith, bits-length n ws)) (omega (arith, marks-length n ws)) s (let u : i ≤ s = g .before in omega arith))
+    pub counting-more : m ≤ n → i < m → Counting n ws m (i + 1) (count + getD ws (5120 + i) 0)
+    counting-more h l = record {
+      upto = omega arith;
+      few = let u : count ≤ i = g .few in omega (arith, note-few i (omega arith));
+      counted = rw (add-one i) (ap₂ _+_ (g .counted) (noted .each i (omega arith)) ∙ sym (count-more (netlistIn n ws .bits) (marksIn visitedAt n ws) i));
+    }
 
-  pub counted-few : count ≤ n
-  counted-few = let u : count ≤ i = g .few in let v : i ≤ n = g .upto in omega arith
+    pub counted-all : m ≤ i → count ≡ keptIn n ws m
+    counted-all h = g .counted ∙ ap (keptIn n ws) (let e : i ≡ m = let u : i ≤ m = g .upto in omega arith in e)
+
+    pub counted-few : m ≤ n → count ≤ n
+    counted-few h = let u : count ≤ i = g .few in let v : i ≤ m = g .upto in omega arith
+
+-- no slot past the last one is kept
+pub counted-past : (n : ℕ) (ws : List ℕ) (s : ℕ) → n ≤ s → (k : ℕ) → k ≡ keptIn n ws n → k ≡ keptIn n ws s
+counted-past n ws s h k e =
+    e ∙ sym (count-past (netlistIn n ws .bits) (marksIn visitedAt n ws) n (omega (arith, bits-length n ws)) (omega (arith, marks-length n ws)) s h)
+
+-- a note, as the test that `compact` makes
+pub noted-at : (n : ℕ) (ws : List ℕ) → Noted n ws → (s : ℕ) → s < n → (w : ℕ) → w ≡ getD ws (5120 + s) 0 → not (eqb w 0) ≡ keptAt n ws s
+noted-at n ws noted s l w e = ap (λ (v : ℕ). not (eqb v 0)) (e ∙ noted .each s l) ∙ tested (keptAt n ws s)
+  where
+    tested : (b : Bool) → not (eqb (cond b 1 0) 0) ≡ b
+    tested true = refl
+    tested false = refl
 
 -- a net's new number
 module _ (n : ℕ) (ws : List ℕ) (x : Net) (d : Driver) (d-is : d ≡ driver x) where
-  pub map-const : (t : Trit) → d ≡ driven.Const t → x ≡ netMap (netlistIn n ws .bits) (marksIn visitedAt n ws) x
+  pub map-const : (t : Trit) → d ≡ driven.Const t → x ≡ renumberedIn n ws x
   unfolding netMap
   map-const t e = rw (← d-is, e)
 
-  pub map-cell : (s : Slot) → d ≡ driven.Cell s → (k : ℕ) → k ≡ keptIn n ws (s .0) → (y : Net) → y ≡ netAt (k + 2) → y ≡ netMap (netlistIn n ws .bits) (marksIn visitedAt n ws) x
+  pub map-cell : (s : Slot) → d ≡ driven.Cell s → (k : ℕ) → k ≡ keptIn n ws (s .0) → (y : Net) → y ≡ netAt (k + 2) → y ≡ renumberedIn n ws x
   unfolding netMap
   map-cell s e k f y g = g ∙ rw (← d-is, e, f)
 
+renumbered-zero : (n : ℕ) (ws : List ℕ) → renumberedIn n ws (netAt 0) ≡ netAt 0
+unfolding netMap driver
+renumbered-zero n ws = refl
+
 -- the records of the kept slots
 abbrev keptRecords : ℕ → List ℕ → ℕ → List Record
-keptRecords n ws s = map (renamedRecord Renumbered n ws) (keptSlots (netlistIn n ws .bits) (marksIn visitedAt n ws) s)
+keptRecords n ws s = map (renumberedRecord n ws) (keptSlots (netlistIn n ws .bits) (marksIn visitedAt n ws) s)
 
 encode-map : (f : ℕ → Cell) (g : ℕ → ℕ) (xs : List ℕ) → encode (record { cells = map f xs; bits = map g xs }) ≡ map (λ x. cellRecord (g x) (f x)) xs
 unfolding encode
@@ -145,21 +165,23 @@ module _ (n : ℕ) (ws : List ℕ) (kept : marksIn visitedAt n ws ≡ keep (netl
   pub compact-records : encode (compact (netlistIn n ws)) ≡ keptRecords n ws n
   unfolding keptSlots renamedRecord
   compact-records =
-      by-marks ∙ map-those _ _ (renamedRecord Renumbered n ws) n
+      by-marks ∙ map-those _ _ (renumberedRecord n ws) n
       (λ s l. ap₂ (λ (b : ℕ) (c : Cell). cellRecord b (visitMut (netMap (netlistIn n ws .bits) (marksIn visitedAt n ws)) c)) (bit-at n ws s l) (cell-at n ws s l))
 
   pub compact-length : length (ticketOf (encode (compact (netlistIn n ws)))) ≡ keptIn n ws n * 16
   unfolding countKept
   compact-length =
       ap (λ (rs : List Record). length (ticketOf rs)) compact-records ∙ ticket-length (keptRecords n ws n)
-      ∙ ap (λ (k : ℕ). k * 16) (length-map (keptSlots (netlistIn n ws .bits) (marksIn visitedAt n ws) n) (renamedRecord Renumbered n ws))
+      ∙ ap (λ (k : ℕ). k * 16) (length-map (keptSlots (netlistIn n ws .bits) (marksIn visitedAt n ws) n) (renumberedRecord n ws))
 
 -- a slot's bytes
 module _ (n : ℕ) (ws : List ℕ) (s : ℕ) (b : Bool) (b-is : b ≡ keptAt n ws s) where
   module _ (e : b ≡ true) where
-    pub copied : (r : Record) → r ≡ renamedRecord Renumbered n ws s → (at : ℕ) (reply reply′ : List ℕ) → reply′ ≡ sets reply (at * 16) (bytesOf r) → reply′ ≡ sets reply (at * 16) (keptBytes n ws s)
+    pub copied : (q : Record) → q ≡ wordRecord ws s → (p : Record) → p ≡ cellRecord (q .bit) (cellOf q) → (r : Record) → r ≡ renamedFields (renumberedIn n ws) p → (at : ℕ) (reply reply′ : List ℕ) → reply′ ≡ sets reply (at * 16) (bytesOf r) → reply′ ≡ sets reply (at * 16) (keptBytes n ws s)
     unfolding keptBytes
-    copied r f at reply reply′ g = g ∙ rw (← b-is, e, f)
+    copied q i p h r f at reply reply′ g =
+        let new : r ≡ renumberedRecord n ws s = f ∙ renamed-plain (renumberedIn n ws) (renumbered-zero n ws) q p h ∙ ap (renamedRecord (renumberedIn n ws)) i in
+        g ∙ rw (← b-is, e, new)
 
     pub copied-next : (at : ℕ) → at + 1 ≡ at + cond (keptAt n ws s) 1 0
     copied-next at = rw (← b-is, e)
@@ -185,15 +207,15 @@ unfolding keptSlots tabulate those ticketOf joined
 writing-none n ws reply = record { upto = omega arith; few = omega arith; number = sym (count-none (netlistIn n ws .bits) (marksIn visitedAt n ws)); same = refl; written = refl }
 
 module _ (n : ℕ) (ws : List ℕ) (s : ℕ) where
-  one-record : (b : Bool) → ticketOf (map (renamedRecord Renumbered n ws) (cond b (s ∷ []) [])) ≡ cond b (bytesOf (renamedRecord Renumbered n ws s)) []
+  one-record : (b : Bool) → ticketOf (map (renumberedRecord n ws) (cond b (s ∷ []) [])) ≡ cond b (bytesOf (renumberedRecord n ws s)) []
   unfolding ticketOf joined
-  one-record true = append-nil (bytesOf (renamedRecord Renumbered n ws s))
+  one-record true = append-nil (bytesOf (renumberedRecord n ws s))
   one-record false = refl
 
   bytes-more : ticketOf (keptRecords n ws (suc s)) ≡ ticketOf (keptRecords n ws s) ++ keptBytes n ws s
   unfolding keptBytes
   bytes-more =
-      let R : ℕ → Record = renamedRecord Renumbered n ws in
+      let R : ℕ → Record = renumberedRecord n ws in
       let K : List ℕ = keptSlots (netlistIn n ws .bits) (marksIn visitedAt n ws) s in
       let k : Bool = keptAt n ws s in
       ap (λ (xs : List ℕ). ticketOf (map R xs)) (kept-more (netlistIn n ws .bits) (marksIn visitedAt n ws) s) ∙ ap ticketOf (map-append R K (cond k (s ∷ []) []))
@@ -203,7 +225,7 @@ module _ (n : ℕ) (ws : List ℕ) (s : ℕ) where
   unfolding countKept
   bytes-so-far =
       ticket-length (keptRecords n ws s)
-      ∙ ap (λ (k : ℕ). k * 16) (length-map (keptSlots (netlistIn n ws .bits) (marksIn visitedAt n ws) s) (renamedRecord Renumbered n ws))
+      ∙ ap (λ (k : ℕ). k * 16) (length-map (keptSlots (netlistIn n ws .bits) (marksIn visitedAt n ws) s) (renumberedRecord n ws))
 
   module _ (reply₀ reply : List ℕ) (at : ℕ) (g : Writing n ws reply₀ reply s at) where
     pub writing-more : s < n → (at′ : ℕ) → at′ ≡ at + cond (keptAt n ws s) 1 0 → (reply′ : List ℕ) → reply′ ≡ sets reply (at * 16) (keptBytes n ws s) → Writing n ws reply₀ reply′ (s + 1) at′

@@ -21,7 +21,7 @@ use Rattle.order.specs.Code.{walkOf, cellsBy, Ready, Walks, Clears}
 use Rattle.order.proofs.Walking.{walks-none, walks-ready, walks-then, cleared-ready, cleared-records, cleared-then, cleared-walked}
 use Rattle.order.proofs.Bits.{those-append}
 use Rattle.design.specs.Compact.{keep}
-use Rattle.design.specs.Words.{netlistIn, isRoot, rootAt, Keeps}
+use Rattle.design.specs.Words.{netlistIn, isRoot, rootAt, Marked}
 use Rattle.design.proofs.Lists.{those-those, those-same}
 use Rattle.design.proofs.Words.{cells-length, bits-length, bit-at, cell-at}
 
@@ -85,7 +85,7 @@ module _ (n : ℕ) (ws₁ ws : List ℕ) (count s : ℕ) (g : Keeping n ws₁ ws
         (walks-then cellsBy n (those (isRoot ws₁) (slots s)) 0 ws₁ ws count (g .walked) (g .begun) (rootAt ws s) ws′ r v));
   }
 
-  pub keeping-ends : n ≤ s → (ws₀ : List ℕ) → Clears n ws₀ ws₁ → Keeps n ws₀ ws
+  pub keeping-ends : n ≤ s → (ws₀ : List ℕ) → Clears n ws₀ ws₁ → Marked n ws₀ ws
   unfolding walkOf
   keeping-ends l ws₀ v =
       let few : n ≤ 1024 = g .ready .few in

@@ -5,4 +5,5 @@ pub mod Replacing
 pub mod Compacting
 pub mod Applying
 pub mod Keeping
+pub mod Noting
 pub mod Examples

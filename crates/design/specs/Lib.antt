@@ -1,3 +1,4 @@
 pub mod Queue
 pub mod Compact
+pub mod Fields
 pub mod Words

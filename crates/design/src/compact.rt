@@ -1,7 +1,7 @@
 // `Design::compact`: inputs, outputs and the cells that they reach, slot after slot, under new numbers.
-use crate::Renaming;
 use crate::visit;
 use cell::Cell;
+use cell::Record;
 use value::Driver;
 use value::Net;
 use value::Slot;
@@ -14,10 +14,11 @@ ghost use Rattle.netlist.specs.Shape.{hasEffects};
 ghost use Rattle.order.specs.Code.{Ready, Walks, cellsBy};
 ghost use Rattle.netlist.specs.Areas.{marksIn, visitedAt};
 ghost use Rattle.netlist.specs.Netlist.{encode, ticketOf};
-ghost use Rattle.design.specs.Compact.{keep, netMap, compact};
-ghost use Rattle.design.specs.Words.{netlistIn, isRoot, rootAt, Keeps, keptAt, keptIn, keptBytes};
+ghost use Rattle.design.specs.Compact.{keep, compact};
+ghost use Rattle.design.specs.Fields.{renamedFields};
+ghost use Rattle.design.specs.Words.{netlistIn, renumberedIn, isRoot, rootAt, Marked, Noted, Notes, Keeps, keptAt, keptIn, keptBytes};
 
-fn has_effects(c: Cell) -> bool
+pub fn has_effects(c: Cell) -> bool
     ensures { λ r. ⌜ r ≡ hasEffects c ⌝ }
 {
     match c {
@@ -32,6 +33,9 @@ fn has_effects(c: Cell) -> bool
         Cell::Aig(_, _) => false,
     }
 }
+
+// Where the notes stand, in the area of the order.
+const NOTES: usize = 5120;
 
 // Whether an input or an output starts in a slot.
 fn is_root(work: &[u32], s: Slot) -> bool
@@ -53,10 +57,10 @@ fn keep_from(work: &mut [u32], n: u32, s: Slot, count: u32) -> u32
 }
 
 // Marks the cells that are kept, where they start.
-pub fn keep(work: &mut [u32], n: u32)
+fn mark_kept(work: &mut [u32], n: u32)
     requires { ⌜ 16384 ≤ length (now work) ⌝ }
     requires { ⌜ n ≤ 1024 ⌝ }
-    ensures { λ _. ⌜ Keeps n (now (work .entry)) (now (work .exit)) ⌝ }
+    ensures { λ _. ⌜ Marked n (now (work .entry)) (now (work .exit)) ⌝ }
 {
     order::clear_marks(work, n);
     let mut count: u32 = 0;
@@ -65,13 +69,6 @@ pub fn keep(work: &mut [u32], n: u32)
         count = keep_from(work, n, Slot(s), count);
         s += 1;
     }
-}
-
-fn one(b: bool) -> u32
-    ensures { λ r. ⌜ r ≡ cond b 1 0 ⌝ }
-    ensures { λ r. ⌜ r ≤ 1 ⌝ }
-{
-    if b { 1 } else { 0 }
 }
 
 // Whether a slot's cell is marked; the mark stands where the cell starts.
@@ -83,26 +80,62 @@ fn is_kept(work: &[u32], n: u32, s: Slot) -> bool
     cell::word(work, 4096 + (start as usize)) != 0
 }
 
-// How many slots before a slot are kept: its new number.
-fn count_kept(work: &[u32], n: u32, s: Slot) -> u32
-    ensures { λ r. ⌜ r ≡ keptIn n (now (work .entry)) (s .0) ⌝ }
+// Notes of each slot whether it is kept, a word each, so that counting is a plain sum.
+fn note_kept(work: &mut [u32], n: u32)
+    requires { ⌜ 16384 ≤ length (now work) ⌝ }
+    requires { ⌜ n ≤ 1024 ⌝ }
+    ensures { λ _. ⌜ Notes n (now (work .entry)) (now (work .exit)) ⌝ }
+{
+    let mut s: u32 = 0;
+    while s < n {
+        let kept = visit::pick32(is_kept(work, n, Slot(s)), 1, 0);
+        cell::put(work, NOTES + (s as usize), kept);
+        s += 1;
+    }
+}
+
+// Finds the slots that are kept: their cells are marked, and the slots noted.
+pub fn keep(work: &mut [u32], n: u32)
+    requires { ⌜ 16384 ≤ length (now work) ⌝ }
+    requires { ⌜ n ≤ 1024 ⌝ }
+    ensures { λ _. ⌜ Keeps n (now (work .entry)) (now (work .exit)) ⌝ }
+{
+    mark_kept(work, n);
+    note_kept(work, n);
+}
+
+// How many of the first m slots are kept.
+fn count_to(work: &[u32], n: u32, m: u32) -> u32
+    requires { ⌜ Noted n (now work) ⌝ }
+    requires { ⌜ m ≤ n ⌝ }
+    ensures { λ r. ⌜ r ≡ keptIn n (now (work .entry)) m ⌝ }
     ensures { λ r. ⌜ r ≤ n ⌝ }
 {
-    let mut i: u32 = 0;
+    let end = m as usize;
+    let mut i: usize = 0;
     let mut count: u32 = 0;
-    while i < n {
-        if s.0 <= i {
-            return count;
-        }
-        count += one(is_kept(work, n, Slot(i)));
+    while i < end {
+        count += work[NOTES + i];
         i += 1;
     }
     count
 }
 
+// How many slots before a slot are kept: its new number.
+fn count_kept(work: &[u32], n: u32, s: Slot) -> u32
+    requires { ⌜ Noted n (now work) ⌝ }
+    ensures { λ r. ⌜ r ≡ keptIn n (now (work .entry)) (s .0) ⌝ }
+    ensures { λ r. ⌜ r ≤ n ⌝ }
+{
+    if s.0 < n {
+        return count_to(work, n, s.0);
+    }
+    count_to(work, n, n)
+}
+
 pub fn net_map(work: &[u32], n: u32, x: Net) -> Net
-    requires { ⌜ n ≤ 1024 ⌝ }
-    ensures { λ r. ⌜ r ≡ netMap (netlistIn n (now (work .entry)) .bits) (marksIn visitedAt n (now (work .entry))) x ⌝ }
+    requires { ⌜ Noted n (now work) ⌝ }
+    ensures { λ r. ⌜ r ≡ renumberedIn n (now (work .entry)) x ⌝ }
 {
     match x.as_cell_index() {
         Driver::Const(_) => x,
@@ -112,25 +145,46 @@ pub fn net_map(work: &[u32], n: u32, x: Net) -> Net
 
 // How many slots are kept.
 pub fn kept_count(work: &[u32], n: u32) -> u32
+    requires { ⌜ Noted n (now work) ⌝ }
     ensures { λ r. ⌜ r ≡ keptIn n (now (work .entry)) n ⌝ }
     ensures { λ r. ⌜ r ≤ n ⌝ }
 {
-    count_kept(work, n, Slot(n))
+    count_to(work, n, n)
+}
+
+// Whether a slot is noted as kept.
+fn is_noted(work: &[u32], n: u32, s: Slot) -> bool
+    requires { ⌜ Noted n (now work) ⌝ }
+    requires { ⌜ s .0 < n ⌝ }
+    ensures { λ r. ⌜ r ≡ keptAt n (now (work .entry)) (s .0) ⌝ }
+{
+    cell::word(work, NOTES + (s.0 as usize)) != 0
+}
+
+// A cell's record with the new numbers of its operands.
+fn renumbered_record(work: &[u32], n: u32, r: Record) -> Record
+    requires { ⌜ Noted n (now work) ⌝ }
+    ensures { λ x. ⌜ x ≡ renamedFields (renumberedIn n (now (work .entry))) r ⌝ }
+{
+    let a = net_map(work, n, visit::net_a(r));
+    let b = net_map(work, n, visit::net_b(r));
+    let c = net_map(work, n, Net(r.c));
+    visit::with_nets(r, a, b, c)
 }
 
 // Writes the record of a slot, if it is kept, and gives the number of the next.
 fn copy_kept(work: &[u32], n: u32, s: Slot, reply: &mut [u8], at: u32) -> u32
-    requires { ⌜ n ≤ 1024 ⌝ }
+    requires { ⌜ Noted n (now work) ⌝ }
     requires { ⌜ s .0 < n ⌝ }
     requires { ⌜ at ≤ s .0 ⌝ }
     ensures { λ r. ⌜ r ≡ at + cond (keptAt n (now (work .entry)) (s .0)) 1 0 ⌝ }
     ensures { λ _. ⌜ now (reply .exit) ≡ sets (now (reply .entry)) (at * 16) (keptBytes n (now (work .entry)) (s .0)) ⌝ }
 {
-    if is_kept(work, n, s) {
+    if is_noted(work, n, s) {
         cell::write_record(
             reply,
             Slot(at),
-            visit::renamed_record(work, n, Renaming::Renumbered, s),
+            renumbered_record(work, n, visit::plain(netlist::record_in(work, s))),
         );
         return at + 1;
     }
@@ -139,7 +193,7 @@ fn copy_kept(work: &[u32], n: u32, s: Slot, reply: &mut [u8], at: u32) -> u32
 
 // Writes the slots that are kept under their new numbers.
 pub fn compact(work: &[u32], n: u32, reply: &mut [u8])
-    requires { ⌜ n ≤ 1024 ⌝ }
+    requires { ⌜ Noted n (now work) ⌝ }
     requires { ⌜ marksIn visitedAt n (now work) ≡ keep (netlistIn n (now work)) ⌝ }
     ensures { λ _. ⌜ now (reply .exit) ≡ sets (now (reply .entry)) 0 (ticketOf (encode (compact (netlistIn n (now (work .entry)))))) ⌝ }
 {

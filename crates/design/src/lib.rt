@@ -18,9 +18,3 @@ pub enum Found {
     Nothing,
     At(Net),
 }
-
-// What operands are renamed by: the replaced nets, or the new slots of those that are kept.
-pub enum Renaming {
-    Replaced,
-    Renumbered,
-}

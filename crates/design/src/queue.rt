@@ -1,5 +1,4 @@
 // Replaced nets, a word a slot. A net that is not replaced stands for itself.
-use crate::Renaming;
 use crate::visit;
 use cell::Cell;
 use cell::Record;
@@ -13,6 +12,7 @@ ghost use Rattle.value.specs.Value.{driver};
 ghost use Rattle.cell.specs.Tabulate.{tabulate};
 ghost use Rattle.netlist.specs.Areas.{Within};
 ghost use Rattle.design.specs.Queue.{netIn, drivenTo, mapNetNew, eqRecord, eqCell, didChange};
+ghost use Rattle.design.specs.Fields.{renamedFields};
 ghost use Rattle.design.specs.Words.{netlistIn, replacedIn, designIn, appliedIn, Applies};
 
 // Nothing is replaced yet.
@@ -87,15 +87,24 @@ pub fn cell_eq(c: Cell, d: Cell) -> bool
     record_eq(cell::cell_record(0, c), cell::cell_record(0, d))
 }
 
+// A cell's record with the nets that its operands are replaced by.
+pub fn replaced_record(work: &[u32], n: u32, r: Record) -> Record
+    ensures { λ x. ⌜ x ≡ renamedFields (mapNetNew (replacedIn n (now (work .entry)))) r ⌝ }
+{
+    let a = map_net_new(work, n, visit::net_a(r));
+    let b = map_net_new(work, n, visit::net_b(r));
+    let c = map_net_new(work, n, Net(r.c));
+    visit::with_nets(r, a, b, c)
+}
+
 // Puts the replacements into one slot, and says whether there was one.
 fn apply_to(work: &mut [u32], n: u32, s: Slot) -> bool
-    requires { ⌜ n ≤ 1024 ⌝ }
     ensures { λ r. ⌜ Applies n (s .0) (now (work .entry)) (now (work .exit)) r ⌝ }
 {
-    let old = netlist::cell_in(work, s);
-    let r = visit::renamed_record(work, n, Renaming::Replaced, s);
+    let old = visit::plain(netlist::record_in(work, s));
+    let r = replaced_record(work, n, old);
     netlist::put_record(work, s, r);
-    !cell_eq(cell::cell_of(r), old)
+    !record_eq(r, old)
 }
 
 // Puts the replacements into all slots, and says whether there was one.

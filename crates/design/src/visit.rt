@@ -1,66 +1,62 @@
-// `Cell::visit_mut`: operands renamed.
-use crate::Renaming;
-use crate::compact;
-use crate::queue;
-use cell::Cell;
+// `Cell::visit_mut` at the fields of a record. None of this branches on the kind, which is hard to predict.
 use cell::Record;
-use value::ControlNet;
 use value::Net;
-use value::Slot;
 ghost use mathlib.Core.Path.{_≡_};
-ghost use Prim.Native.Nat.{_≤_};
-ghost use Rattle.netlist.specs.Shape.{visitControl, visitMut};
-ghost use Rattle.design.specs.Words.{renamed, renamedRecord};
+ghost use mathlib.Core.Bool.{cond};
+ghost use Rattle.cell.specs.Records.{cellOf, cellRecord};
+ghost use Rattle.design.specs.Fields.{netA, netB, withNets};
 
-fn rename(work: &[u32], n: u32, by: Renaming, x: Net) -> Net
-    requires { ⌜ n ≤ 1024 ⌝ }
-    ensures { λ r. ⌜ r ≡ renamed by n (now (work .entry)) x ⌝ }
+pub fn pick8(b: bool, x: u8, y: u8) -> u8
+    ensures { λ r. ⌜ r ≡ cond b x y ⌝ }
 {
-    match by {
-        Renaming::Replaced => queue::map_net_new(work, n, x),
-        Renaming::Renumbered => compact::net_map(work, n, x),
+    if b { x } else { y }
+}
+
+pub fn pick32(b: bool, x: u32, y: u32) -> u32
+    ensures { λ r. ⌜ r ≡ cond b x y ⌝ }
+{
+    if b { x } else { y }
+}
+
+// The record of a record's cell: what its kind does not use is 0.
+pub fn plain(r: Record) -> Record
+    ensures { λ x. ⌜ x ≡ cellRecord (r .bit) (cellOf r) ⌝ }
+{
+    let known = logic::both(1 <= r.kind, r.kind <= 8);
+    let no_b = logic::either(r.kind == 1, logic::both(3 <= r.kind, r.kind <= 4));
+    Record {
+        kind: pick8(known, r.kind, 9),
+        flags: pick8(known, 0, r.flags % 2 + r.flags / 2 % 2 * 2),
+        bit: r.bit,
+        a: r.a,
+        b: pick32(no_b, 0, r.b),
+        c: pick32(r.kind == 8, r.c, 0),
     }
 }
 
-fn rename_control(work: &[u32], n: u32, by: Renaming, p: ControlNet) -> ControlNet
-    requires { ⌜ n ≤ 1024 ⌝ }
-    ensures { λ r. ⌜ r ≡ visitControl (renamed by n (now (work .entry))) p ⌝ }
+// The nets in fields a and b of such a record; a constant where there is a label.
+pub fn net_a(r: Record) -> Net
+    ensures { λ x. ⌜ x ≡ netA r ⌝ }
 {
-    match p {
-        ControlNet::Pos(x) => ControlNet::Pos(rename(work, n, by, x)),
-        ControlNet::Neg(x) => ControlNet::Neg(rename(work, n, by, x)),
-    }
+    Net(pick32(r.kind == 1, 0, r.a))
 }
 
-pub fn visit_mut(work: &[u32], n: u32, by: Renaming, c: Cell) -> Cell
-    requires { ⌜ n ≤ 1024 ⌝ }
-    ensures { λ r. ⌜ r ≡ visitMut (renamed by n (now (work .entry))) c ⌝ }
+pub fn net_b(r: Record) -> Net
+    ensures { λ x. ⌜ x ≡ netB r ⌝ }
 {
-    match c {
-        Cell::Input(l) => Cell::Input(l),
-        Cell::Output(x, l) => Cell::Output(rename(work, n, by, x), l),
-        Cell::Buf(x) => Cell::Buf(rename(work, n, by, x)),
-        Cell::Not(x) => Cell::Not(rename(work, n, by, x)),
-        Cell::And(x, y) => Cell::And(rename(work, n, by, x), rename(work, n, by, y)),
-        Cell::Or(x, y) => Cell::Or(rename(work, n, by, x), rename(work, n, by, y)),
-        Cell::Xor(x, y) => Cell::Xor(rename(work, n, by, x), rename(work, n, by, y)),
-        Cell::Mux(x, y, z) => Cell::Mux(
-            rename(work, n, by, x),
-            rename(work, n, by, y),
-            rename(work, n, by, z),
-        ),
-        Cell::Aig(p, q) => Cell::Aig(
-            rename_control(work, n, by, p),
-            rename_control(work, n, by, q),
-        ),
-    }
+    Net(pick32(r.kind == 2, 0, r.b))
 }
 
-// The record of a slot with its operands renamed.
-pub fn renamed_record(work: &[u32], n: u32, by: Renaming, s: Slot) -> Record
-    requires { ⌜ n ≤ 1024 ⌝ }
-    ensures { λ r. ⌜ r ≡ renamedRecord by n (now (work .entry)) (s .0) ⌝ }
+// Such a record with other nets.
+pub fn with_nets(r: Record, a: Net, b: Net, c: Net) -> Record
+    ensures { λ x. ⌜ x ≡ withNets r a b c ⌝ }
 {
-    let r = netlist::record_in(work, s);
-    cell::cell_record(r.bit, visit_mut(work, n, by, cell::cell_of(r)))
+    Record {
+        kind: r.kind,
+        flags: r.flags,
+        bit: r.bit,
+        a: pick32(r.kind == 1, r.a, a.0),
+        b: pick32(r.kind == 2, r.b, b.0),
+        c: c.0,
+    }
 }

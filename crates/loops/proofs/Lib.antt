@@ -4,5 +4,6 @@ pub mod Reach
 pub mod Rank
 pub mod Marks
 pub mod Steps
+pub mod Lowest
 pub mod Search
 pub mod Examples

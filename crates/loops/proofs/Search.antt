@@ -9,7 +9,7 @@ use lib.Dec.{eqb}
 use lib.ListN.{length, set, drop, length-set}
 use lib.Seq.{drop-set-lt}
 use borrow.Author.Count.{below-more}
-use borrow.Author.Tests.{eq-eqb}
+use borrow.Author.Tests.{eq-eqb, eqb-true, eqb-false}
 use Rattle.value.specs.declared.Slot.{Slot}
 use Rattle.value.specs.Value.{slotAt}
 use Rattle.cell.specs.declared.Record.{Record}
@@ -18,8 +18,6 @@ use Rattle.cell.specs.Kinds.{edgeAt}
 use Rattle.cell.specs.Records.{recordIn}
 use Rattle.loops.specs.declared.Stop.{Stop}
 use Rattle.loops.specs.declared.Stop.the-variants.{Any, At}
-use Rattle.loops.specs.declared.Walk.{Walk}
-use Rattle.loops.specs.declared.Walk.the-variants.{Looped, Done}
 use Rattle.loops.specs.declared.Found.{Found}
 use Rattle.loops.specs.declared.Found.the-variants as found
 use Rattle.loops.specs.Reach.{Reaches, edge, path, onLoop}
@@ -30,6 +28,7 @@ use Rattle.loops.proofs.Edges.{edge-below}
 use Rattle.loops.proofs.Reach.{onLoop-iff, onLoop-false}
 use Rattle.loops.proofs.Rank.{falls-no-loop}
 use Rattle.loops.proofs.Marks.{mark-set}
+use Rattle.loops.proofs.Lowest.{IsLowest, lowest-on-loop}
 
 -- the marks of the first i slots are off
 pub record Clearing (n : ℕ) (ws ws′ : List ℕ) (i : ℕ) : Type 0 where
@@ -43,6 +42,9 @@ clearing-none n ws = record {
   same = refl;
   cleared = record { blank = λ u l. absurd (omega arith); rest = refl };
 }
+
+pub clearing-inside : (n : ℕ) (ws ws′ : List ℕ) (i : ℕ) → Clearing n ws ws′ i → (n ≤ 512) × (16384 ≤ length ws) → i < n → i < length ws′
+clearing-inside n ws ws′ i g h l = omega (arith, g .same)
 
 pub clearing-more : (n : ℕ) (ws ws′ ws″ : List ℕ) (i : ℕ) → Clearing n ws ws′ i → (n ≤ 512) × (16384 ≤ length ws) → i < n → ws″ ≡ set ws′ i 0 → Clearing n ws ws″ (i + 1)
 clearing-more n ws ws′ ws″ i g h l e = subst (λ (vs : List ℕ). Clearing n ws vs (i + 1)) (sym e) (record {
@@ -95,17 +97,14 @@ module _ (rs : List Record) (n : ℕ) (ws ws′ : List ℕ) (g : Searchable rs n
     marked = k .blank (s .0) l;
   }
 
-  module _ (s : Slot) (l : s .0 < n) (ws″ : List ℕ) (r : Walk) (v : Visits rs (At s) 2 ws′ ws″ (s .0) r) where
-    pub tells-loop : r ≡ Looped → Tells rs ws ws″ (s .0) true
+  module _ (s : Slot) (l : s .0 < n) (ws″ : List ℕ) (c : ℕ) (v : Visits rs (At s) 2 ws′ ws″ (s .0) c) where
+    on-loop : c ≡ 0 → onLoop rs (s .0) ≡ true
     unfolding Stopped
-    tells-loop q = record {
-      told = sym (onLoop-iff rs (s .0) .1 (v .walked .looped q));
-      rest = v .walked .rest ∙ k .rest;
-    }
+    on-loop q = onLoop-iff rs (s .0) .1 (v .walked .looped q)
 
-    module _ (c : ℕ) (q : r ≡ Done c) where
+    module _ (d : c ≡ 0 → ⊥) where
       leaves : Leaves rs (At s) 2 c ws′ ws″
-      leaves = v .walked .done c q
+      leaves = v .walked .done d
 
       -- from a finished slot an edge leads to a finished slot that is not s, since s has the last stamp
       onward : (u f : ℕ) (x : Slot) → 2 ≤ mark ws″ u → edgeAt (recordIn rs u) f ≡ To x → (2 ≤ mark ws″ (x .0)) × (x .0 ≡ s .0 → ⊥)
@@ -113,17 +112,21 @@ module _ (rs : List Record) (n : ℕ) (ws ws′ : List ℕ) (g : Searchable rs n
       onward u f x m e =
           let b : Before (At s) ws″ (mark ws″ u) (x .0) = leaves .walking .before u f x m e in
           let o : mark ws″ (x .0) ≡ 1 → ⊥ = λ h. absurd (omega (arith, leaves .opened (x .0) h, off (x .0) (fits-own .inside u f x e))) in
-          (omega (arith, o, b .met), λ h. absurd (omega (arith, b .earlier (eq-eqb _ _ (sym h)), ap (mark ws″) h, v .stamped c q, leaves .walking .stamps u (edge-below rs u f x e))))
+          (omega (arith, o, b .met), λ h. absurd (omega (arith, b .earlier (eq-eqb _ _ (sym h)), ap (mark ws″) h, v .stamped d, leaves .walking .stamps u (edge-below rs u f x e))))
 
       never-back : (u y : ℕ) → 2 ≤ mark ws″ u → Reaches rs u y → y ≡ s .0 → ⊥
       never-back u y m (edge f e) = onward u f (slotAt y) m e .1
       never-back u y m (path {x = x} f e p) = never-back x y (onward u f (slotAt x) m e .0) p
 
-      pub tells-none : Tells rs ws ws″ (s .0) false
-      tells-none = record {
-        told = sym (onLoop-false rs (s .0) (λ p. never-back (s .0) (s .0) (v .stamped c q .0) p refl));
-        rest = v .walked .rest ∙ k .rest;
-      }
+      not-on-loop : onLoop rs (s .0) ≡ false
+      not-on-loop = onLoop-false rs (s .0) (λ p. never-back (s .0) (s .0) (v .stamped d .0) p refl)
+
+    pub tells : Tells rs ws ws″ (s .0) (eqb c 0)
+    tells = record { told = go (eqb c 0) refl; rest = v .walked .rest ∙ k .rest }
+      where
+        go : (b : Bool) → eqb c 0 ≡ b → b ≡ onLoop rs (s .0)
+        go true t = sym (on-loop (eqb-true c 0 t))
+        go false t = sym (not-on-loop (eqb-false c 0 t))
 
 -- all slots below i are finished
 pub record Going (rs : List Record) (n : ℕ) (ws ws′ : List ℕ) (clock i : ℕ) : Type 0 where
@@ -155,16 +158,16 @@ module _ (rs : List Record) (n : ℕ) (ws₀ ws : List ℕ) (clock i : ℕ) (g :
       reached = tt;
     }
 
-    module _ (ws′ : List ℕ) (r : Walk) (v : Meets rs Any clock ws ws′ i r) where
-      pub going-more : (c : ℕ) → r ≡ Done c → length ws′ ≡ length ws → Going rs n ws₀ ws′ c (i + 1)
+    module _ (ws′ : List ℕ) (c : ℕ) (v : Meets rs Any clock ws ws′ i c) where
+      pub going-more : (c ≡ 0 → ⊥) → length ws′ ≡ length ws → Going rs n ws₀ ws′ c (i + 1)
       unfolding stopsAt
-      going-more c q e = let a : Leaves rs Any clock c ws ws′ = v .walked .done c q in record {
+      going-more d e = let a : Leaves rs Any clock c ws ws′ = v .walked .done d in record {
         upto = omega arith;
         same = e ∙ g .same;
         fits = searchable-kept rs n ws ws′ (g .fits) e;
         walking = a .walking;
         finished = below-more (λ u. 2 ≤ mark ws′ u) i
-            (λ u h. let m : 2 ≤ mark ws u = g .finished u h in omega (arith, a .kept u (λ z. absurd (omega arith)))) (v .before c q .finished refl);
+            (λ u h. let m : 2 ≤ mark ws u = g .finished u h in omega (arith, a .kept u (λ z. absurd (omega arith)))) (v .before d .finished refl);
         rest = v .walked .rest ∙ g .rest;
       }
 
@@ -211,19 +214,15 @@ module _ (rs : List Record) (n : ℕ) (ws₀ ws : List ℕ) (i : ℕ) (g : Seeki
     }
 
     pub seeking-found : b ≡ true → Finds rs ws₀ ws′ (found.At (slotAt i))
+    unfolding IsLowest
     seeking-found t = record {
-      at = λ s e. subst (λ (x : Slot). (x .0 < length rs) × (onLoop rs (x .0) ≡ true) × ((j : ℕ) → j < x .0 → onLoop rs j ≡ false))
-          (let q : slotAt i ≡ s = cc in q) (omega (arith, g .fits .count), sym (v .told) ∙ t, g .none);
-      nothing = λ e. let z : _≡_ {A = ℕ} 0 1 = cc in absurd (omega arith);
+      found = lowest-on-loop rs (found.At (slotAt i)) .1 (omega (arith, g .fits .count), sym (v .told) ∙ t, g .none);
       rest = v .rest ∙ g .rest;
     }
 
 finds-nothing : (rs : List Record) (ws ws′ : List ℕ) → ((i : ℕ) → i < length rs → onLoop rs i ≡ false) → drop 16384 ws′ ≡ drop 16384 ws → Finds rs ws ws′ found.Nothing
-finds-nothing rs ws ws′ h e = record {
-  at = λ s e. let z : _≡_ {A = ℕ} 0 1 = cc in absurd (omega arith);
-  nothing = λ e. h;
-  rest = e;
-}
+unfolding IsLowest
+finds-nothing rs ws ws′ h e = record { found = lowest-on-loop rs found.Nothing .1 h; rest = e }
 
 pub seeking-ends : (rs : List Record) (n : ℕ) (ws₀ ws : List ℕ) (i : ℕ) → Seeking rs n ws₀ ws i → n ≤ i → Finds rs ws₀ ws found.Nothing
 seeking-ends rs n ws₀ ws i g l = finds-nothing rs ws₀ ws (λ j h. g .none j (omega (arith, g .fits .count))) (g .rest)
@@ -233,4 +232,4 @@ module _ (rs : List Record) (ws ws′ : List ℕ) (b : Bool) (v : Frees rs ws ws
   free-finds t = finds-nothing rs ws ws′ (λ j h. v .free t j) (v .rest)
 
   pub then-finds : (ws″ : List ℕ) (r : Found) → Finds rs ws′ ws″ r → Finds rs ws ws″ r
-  then-finds ws″ r f = record { at = f .at; nothing = f .nothing; rest = f .rest ∙ v .rest }
+  then-finds ws″ r f = record { found = f .found; rest = f .rest ∙ v .rest }

@@ -13,8 +13,6 @@ use Rattle.cell.specs.Kinds.{edgeAt}
 use Rattle.cell.specs.Records.{recordIn}
 use Rattle.loops.specs.declared.Stop.{Stop}
 use Rattle.loops.specs.declared.Stop.the-variants.{Any, At}
-use Rattle.loops.specs.declared.Walk.{Walk}
-use Rattle.loops.specs.declared.Walk.the-variants.{Looped, Done}
 use Rattle.loops.specs.Reach.{Reaches, OnLoop, onLoop}
 use Rattle.loops.specs.Search.{Searchable}
 use Rattle.loops.specs.Counted.{counted}
@@ -82,25 +80,26 @@ pub record Leaves (rs : List Record) (stop : Stop) (clock next : ℕ) (ws ws′ 
   pub opened : (u : ℕ) → mark ws′ u ≡ 1 → mark ws u ≡ 1
   pub rising : next + unvisited (length rs) ws′ ≤ clock + unvisited (length rs) ws
 
-pub record Walked (rs : List Record) (stop : Stop) (clock : ℕ) (ws ws′ : List ℕ) (r : Walk) : Type 0 where
-  pub looped : r ≡ Looped → Stopped rs stop
-  pub done : (next : ℕ) → r ≡ Done next → Leaves rs stop clock next ws ws′
+-- the answer of a part of the walk: 0 if it met an open slot that ends it, else the next stamp
+pub record Walked (rs : List Record) (stop : Stop) (clock : ℕ) (ws ws′ : List ℕ) (next : ℕ) : Type 0 where
+  pub looped : next ≡ 0 → Stopped rs stop
+  pub done : (next ≡ 0 → ⊥) → Leaves rs stop clock next ws ws′
   pub rest : drop 16384 ws′ ≡ drop 16384 ws
 
 -- slot s was visited: it has the last stamp
-pub record Visits (rs : List Record) (stop : Stop) (clock : ℕ) (ws ws′ : List ℕ) (s : ℕ) (r : Walk) : Type 0 where
-  pub walked : Walked rs stop clock ws ws′ r
-  pub stamped : (next : ℕ) → r ≡ Done next → (2 ≤ mark ws′ s) × (mark ws′ s + 1 ≡ next)
+pub record Visits (rs : List Record) (stop : Stop) (clock : ℕ) (ws ws′ : List ℕ) (s next : ℕ) : Type 0 where
+  pub walked : Walked rs stop clock ws ws′ next
+  pub stamped : (next ≡ 0 → ⊥) → (2 ≤ mark ws′ s) × (mark ws′ s + 1 ≡ next)
 
 -- slot x was met
-pub record Meets (rs : List Record) (stop : Stop) (clock : ℕ) (ws ws′ : List ℕ) (x : ℕ) (r : Walk) : Type 0 where
-  pub walked : Walked rs stop clock ws ws′ r
-  pub before : (next : ℕ) → r ≡ Done next → Before stop ws′ next x
+pub record Meets (rs : List Record) (stop : Stop) (clock : ℕ) (ws ws′ : List ℕ) (x next : ℕ) : Type 0 where
+  pub walked : Walked rs stop clock ws ws′ next
+  pub before : (next ≡ 0 → ⊥) → Before stop ws′ next x
 
 -- the edges of slot s by the fields from low to high were followed
-pub record Follows (rs : List Record) (stop : Stop) (clock : ℕ) (ws ws′ : List ℕ) (s low high : ℕ) (r : Walk) : Type 0 where
-  pub walked : Walked rs stop clock ws ws′ r
-  pub before : (next : ℕ) → r ≡ Done next → (f : ℕ) (x : Slot) → low ≤ f → f ≤ high → edgeAt (recordIn rs s) f ≡ To x → Before stop ws′ next (x .0)
+pub record Follows (rs : List Record) (stop : Stop) (clock : ℕ) (ws ws′ : List ℕ) (s low high next : ℕ) : Type 0 where
+  pub walked : Walked rs stop clock ws ws′ next
+  pub before : (next ≡ 0 → ⊥) → (f : ℕ) (x : Slot) → low ≤ f → f ≤ high → edgeAt (recordIn rs s) f ≡ To x → Before stop ws′ next (x .0)
 
 -- the first n slots are not visited
 pub record Cleared (n : ℕ) (ws ws′ : List ℕ) : Type 0 where

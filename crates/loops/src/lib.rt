@@ -1,11 +1,12 @@
 // The search for loops (refusal 8): a bit that reaches itself through operands. A walk from a slot goes down its edges and
 // marks the slots in the first words of the work slice: 0 not visited, 1 open, and from 2 on finished, by the stamp of a clock.
 use cell::Edge;
+use cell::Record;
 use value::Slot;
 ghost use mathlib.Core.Path.{_≡_};
 ghost use Prim.Native.Nat.{_≤_, _<_};
 ghost use lib.ListN.{length};
-ghost use Rattle.cell.specs.Records.{recordsOf};
+ghost use Rattle.cell.specs.Records.{recordAt, recordsOf};
 ghost use Rattle.loops.specs.Search.{Searchable, Finds};
 ghost use Rattle.loops.specs.Walk.{stopsAt, Ready, Coming, Visits, Meets, Follows, Cleared, Frees, Tells};
 
@@ -13,12 +14,6 @@ ghost use Rattle.loops.specs.Walk.{stopsAt, Ready, Coming, Visits, Meets
 enum Stop {
     Any,
     At(Slot),
-}
-
-// The walk met an open slot that ends it, or is done; then with the next stamp.
-enum Walk {
-    Looped,
-    Done(u32),
 }
 
 pub enum Found {
@@ -35,48 +30,61 @@ fn stops(stop: Stop, x: Slot) -> bool
     }
 }
 
-// Opens a slot that was not visited, follows its edges and finishes it.
-fn visit(work: &mut [u32], ticket: &[u8], stop: Stop, s: Slot, clock: u32) -> Walk
+// Opens a slot that was not visited, follows its edges and finishes it. This and the next three answer the next stamp, or 0
+// where the walk met an open slot that ends it: a number, since an enum would come back through memory.
+fn visit(work: &mut [u32], ticket: &[u8], stop: Stop, s: Slot, clock: u32) -> u32
     requires { ⌜ Ready (recordsOf (now ticket)) stop clock (now work) (s .0) 0 ⌝ }
     ensures { λ r. ⌜ Visits (recordsOf (now (ticket .entry))) stop clock (now (work .entry)) (now (work .exit)) (s .0) r ⌝ }
 {
     let i = s.0 as usize;
     cell::put(work, i, 1);
-    match visit_edges(work, ticket, stop, s, 3, clock) {
-        Walk::Looped => Walk::Looped,
-        Walk::Done(c) => {
-            cell::put(work, i, c);
-            Walk::Done(c + 1)
-        }
+    let next = visit_edges(work, ticket, stop, s, clock);
+    if next == 0 {
+        return 0;
     }
+    cell::put(work, i, next);
+    next + 1
 }
 
-// Follows the edges of an open slot by the fields from f down.
-fn visit_edges(work: &mut [u32], ticket: &[u8], stop: Stop, s: Slot, f: u32, clock: u32) -> Walk
+// Follows the edges of an open slot.
+fn visit_edges(work: &mut [u32], ticket: &[u8], stop: Stop, s: Slot, clock: u32) -> u32
     requires { ⌜ Ready (recordsOf (now ticket)) stop clock (now work) (s .0) 1 ⌝ }
-    ensures { λ r. ⌜ Follows (recordsOf (now (ticket .entry))) stop clock (now (work .entry)) (now (work .exit)) (s .0) 0 f r ⌝ }
+    ensures { λ r. ⌜ Follows (recordsOf (now (ticket .entry))) stop clock (now (work .entry)) (now (work .exit)) (s .0) 1 3 r ⌝ }
 {
-    if f == 0 {
-        return Walk::Done(clock);
+    let r = cell::record_at(ticket, s);
+    let c = visit_edge(work, ticket, stop, s, r, 3, clock);
+    if c == 0 {
+        return 0;
     }
-    match visit_edge(work, ticket, stop, s, f, clock) {
-        Walk::Looped => Walk::Looped,
-        Walk::Done(c) => visit_edges(work, ticket, stop, s, f - 1, c),
+    let d = visit_edge(work, ticket, stop, s, r, 2, c);
+    if d == 0 {
+        return 0;
     }
+    visit_edge(work, ticket, stop, s, r, 1, d)
 }
 
-fn visit_edge(work: &mut [u32], ticket: &[u8], stop: Stop, s: Slot, f: u32, clock: u32) -> Walk
+// Follows the edge of an open slot, whose record is r, by field f.
+fn visit_edge(
+    work: &mut [u32],
+    ticket: &[u8],
+    stop: Stop,
+    s: Slot,
+    r: Record,
+    f: u32,
+    clock: u32,
+) -> u32
     requires { ⌜ Ready (recordsOf (now ticket)) stop clock (now work) (s .0) 1 ⌝ }
-    ensures { λ r. ⌜ Follows (recordsOf (now (ticket .entry))) stop clock (now (work .entry)) (now (work .exit)) (s .0) f f r ⌝ }
+    requires { ⌜ r ≡ recordAt (now ticket) (s .0) ⌝ }
+    ensures { λ x. ⌜ Follows (recordsOf (now (ticket .entry))) stop clock (now (work .entry)) (now (work .exit)) (s .0) f f x ⌝ }
 {
-    match cell::edge_at(cell::record_at(ticket, s), f) {
-        Edge::Nowhere => Walk::Done(clock),
+    match cell::edge_at(r, f) {
+        Edge::Nowhere => clock,
         Edge::To(x) => meet(work, ticket, stop, x, clock),
     }
 }
 
 // Visits a slot unless it was visited, and says whether the walk ends there.
-fn meet(work: &mut [u32], ticket: &[u8], stop: Stop, x: Slot, clock: u32) -> Walk
+fn meet(work: &mut [u32], ticket: &[u8], stop: Stop, x: Slot, clock: u32) -> u32
     requires { ⌜ Coming (recordsOf (now ticket)) stop clock (now work) (x .0) ⌝ }
     ensures { λ r. ⌜ Meets (recordsOf (now (ticket .entry))) stop clock (now (work .entry)) (now (work .exit)) (x .0) r ⌝ }
 {
@@ -86,10 +94,10 @@ fn meet(work: &mut [u32], ticket: &[u8], stop: Stop, x: Slot, clock: u32) -> Wal
     }
     if mark == 1 {
         if stops(stop, x) {
-            return Walk::Looped;
+            return 0;
         }
     }
-    Walk::Done(clock)
+    clock
 }
 
 // Takes the marks off all slots.
@@ -97,9 +105,10 @@ fn clear(work: &mut [u32], n: u32)
     requires { ⌜ (n ≤ 512) × (16384 ≤ length (now work)) ⌝ }
     ensures { λ _. ⌜ Cleared n (now (work .entry)) (now (work .exit)) ⌝ }
 {
-    let mut i: u32 = 0;
-    while i < n {
-        cell::put(work, i as usize, 0);
+    let end = n as usize;
+    let mut i: usize = 0;
+    while i < end {
+        work[i] = 0;
         i += 1;
     }
 }
@@ -113,10 +122,11 @@ fn walk_all(work: &mut [u32], ticket: &[u8], n: u32) -> bool
     let mut clock: u32 = 2;
     let mut i: u32 = 0;
     while i < n {
-        match meet(work, ticket, Stop::Any, Slot(i), clock) {
-            Walk::Looped => return false,
-            Walk::Done(c) => clock = c,
+        let next = meet(work, ticket, Stop::Any, Slot(i), clock);
+        if next == 0 {
+            return false;
         }
+        clock = next;
         i += 1;
     }
     true
@@ -128,10 +138,7 @@ fn is_on_loop(work: &mut [u32], ticket: &[u8], n: u32, s: Slot) -> bool
     ensures { λ r. ⌜ Tells (recordsOf (now (ticket .entry))) (now (work .entry)) (now (work .exit)) (s .0) r ⌝ }
 {
     clear(work, n);
-    match visit(work, ticket, Stop::At(s), s, 2) {
-        Walk::Looped => true,
-        Walk::Done(_) => false,
-    }
+    visit(work, ticket, Stop::At(s), s, 2) == 0
 }
 
 fn first_on_loop(work: &mut [u32], ticket: &[u8], n: u32) -> Found

@@ -25,10 +25,14 @@ use Rattle.netlist.proofs.Frames.{within-none, within-then, within-wider, tabul
 use Rattle.netlist.proofs.Areas.{Sized, store-within, stored-other, stored-same}
 use Rattle.netlist.specs.Shape.{visitMut}
 use Rattle.design.specs.Queue.{mapNetNew}
+use Rattle.design.specs.Fields.{renamedFields}
 use Rattle.design.specs.Words.{netlistIn, replacedIn}
+use Rattle.design.proofs.Visiting.{renamed-cell}
+use Rattle.design.proofs.Applying.{replaced-zero}
 use Rattle.design.proofs.Words.{bits-length, bit-at}
 use Rattle.merge.specs.Merge.{keyOf}
-use Rattle.merge.specs.Words.{keyIn, Keys, widthOf}
+use Rattle.merge.specs.Words.{keyFields, keyIn, Keys, widthOf}
+use Rattle.merge.proofs.Keys.{key-fields}
 
 -- the loop of `cell_end`
 pub record Ending (n : ℕ) (ws : List ℕ) (e₀ e : ℕ) : Type 0 where
@@ -95,10 +99,17 @@ module _ (from to n : ℕ) (ws ws′ : List ℕ) (far : 7168 ≤ from) (few : n 
   unfolding keyIn
   key-stays s l = rw (replaced-stays, record-kept from to ws ws′ w s (inl (omega arith)))
 
-pub key-put : (n : ℕ) (ws ws′ : List ℕ) (s : ℕ) (b c d : Cell) (r : Record) → ws′ ≡ storeWords ws (3328 + s) r → r ≡ cellRecord s d → d ≡ keyOf c
-    → c ≡ visitMut (mapNetNew (replacedIn n ws)) b → b ≡ cellOf (wordRecord ws s) → ws′ ≡ storeWords ws (3328 + s) (cellRecord s (keyIn n ws s))
+pub key-put : (n : ℕ) (ws ws′ : List ℕ) (s : ℕ) (q own new key : Record) → ws′ ≡ storeWords ws (3328 + s) key → key ≡ keyFields s new
+    → new ≡ renamedFields (mapNetNew (replacedIn n ws)) own → own ≡ cellRecord (q .bit) (cellOf q) → q ≡ wordRecord ws s
+    → ws′ ≡ storeWords ws (3328 + s) (cellRecord s (keyIn n ws s))
 unfolding keyIn
-key-put n ws ws′ s b c d r e er ed ec eb = rw (sym eb, sym ec, sym ed, sym er) e
+key-put n ws ws′ s q own new key e ek en eo eq =
+    let f : Net → Net = mapNetNew (replacedIn n ws) in
+    e
+    ∙ ap (storeWords ws (3328 + s)) (ek
+    ∙ ap (keyFields s) (en ∙ ap (renamedFields f) eo ∙ renamed-cell f (replaced-zero (replacedIn n ws)) (q .bit) (cellOf q))
+    ∙ key-fields s (q .bit) (visitMut f (cellOf q))
+    ∙ ap (λ (r : Record). cellRecord s (keyOf (visitMut f (cellOf r)))) eq)
 
 -- the loop of `put_keys`
 pub record Keying (n s e : ℕ) (ws₀ ws : List ℕ) (i : ℕ) : Type 0 where

@@ -1,59 +1,36 @@
--- Keys of cells with commutative operands. Assumes nothing.
+-- Keys by the fields of records. Assumes nothing.
 use mathlib.Core.Path.{_≡_, refl, sym, ap, _∙_}
-use mathlib.Core.Bool.{Bool, true, false, cond}
+use mathlib.Core.Bool.{Bool, true, false, cond, not}
+use Prim.Native.Nat.{ℕ}
+use lib.Dec.{leb}
 use Rattle.value.specs.declared.Net.{Net}
-use Rattle.value.specs.declared.ControlNet.{ControlNet}
+use Rattle.value.specs.declared.ControlNet.the-variants.{Pos, Neg}
 use Rattle.value.specs.Value.{leNet, leControl}
+use Rattle.cell.specs.declared.Record.{Record}
 use Rattle.cell.specs.declared.Cell.{Cell}
-use Rattle.cell.specs.declared.Cell.the-variants.{And, Or, Xor, Mux, Aig}
+use Rattle.cell.specs.declared.Cell.the-variants.{Input, Output, Buf, Not, And, Or, Xor, Mux, Aig}
+use Rattle.cell.specs.Records.{recordOf, cellRecord}
 use Rattle.merge.specs.Merge.{sorted, keyOf}
+use Rattle.merge.specs.Words.{turned, keyFields}
 
--- operands that stand in their order, and operands that do not, of a cell that was matched
-abbrev Stays : {A : Type 0} → (A → A → Bool) → (A → A → Cell) → Type 0
-Stays {A} le f = (c : Cell) (x y : A) (b : Bool) → c ≡ f x y → b ≡ le x y → b ≡ true → f x y ≡ keyOf c
+module _ (bit : ℕ) where
+  -- two operands of one sort, exchanged or not
+  either-way : (f : Net → Net → Cell) (kind flags : ℕ) → ((x y : Net) → cellRecord bit (f x y) ≡ recordOf kind flags bit (x .0) (y .0) 0) → (x y : Net) (le : Bool)
+      → recordOf kind flags bit (cond (not le) (y .0) (x .0)) (cond (not le) (x .0) (y .0)) 0 ≡ cellRecord bit (cond le (f x y) (f y x))
+  either-way f kind flags h x y true = sym (h x y)
+  either-way f kind flags h x y false = sym (h y x)
 
-abbrev Turns : {A : Type 0} → (A → A → Bool) → (A → A → Cell) → Type 0
-Turns {A} le f = (c : Cell) (x y : A) (b : Bool) → c ≡ f x y → b ≡ le x y → b ≡ false → f y x ≡ keyOf c
-
-module _ {A : Type 0} (le : A → A → Bool) (f : A → A → Cell) (key : (x y : A) → keyOf (f x y) ≡ sorted le f x y) where
-  stays : Stays le f
-  stays c x y b e t h = sym (ap keyOf e ∙ key x y ∙ ap (λ (d : Bool). cond d (f x y) (f y x)) (sym t ∙ h))
-
-  turns : Turns le f
-  turns c x y b e t h = sym (ap keyOf e ∙ key x y ∙ ap (λ (d : Bool). cond d (f x y) (f y x)) (sym t ∙ h))
-
-pub and-stays : Stays leNet And
-unfolding keyOf
-and-stays = stays leNet And (λ x y. refl)
-
-pub and-turns : Turns leNet And
-unfolding keyOf
-and-turns = turns leNet And (λ x y. refl)
-
-pub or-stays : Stays leNet Or
-unfolding keyOf
-or-stays = stays leNet Or (λ x y. refl)
-
-pub or-turns : Turns leNet Or
-unfolding keyOf
-or-turns = turns leNet Or (λ x y. refl)
-
-pub xor-stays : Stays leNet Xor
-unfolding keyOf
-xor-stays = stays leNet Xor (λ x y. refl)
-
-pub xor-turns : Turns leNet Xor
-unfolding keyOf
-xor-turns = turns leNet Xor (λ x y. refl)
-
-pub aig-stays : Stays leControl Aig
-unfolding keyOf
-aig-stays = stays leControl Aig (λ x y. refl)
-
-pub aig-turns : Turns leControl Aig
-unfolding keyOf
-aig-turns = turns leControl Aig (λ x y. refl)
-
-pub mux-is : (c : Cell) (x y z : Net) → c ≡ Mux x y z → Mux x y z ≡ keyOf c
-unfolding keyOf
-mux-is c x y z e = rw e
+  pub key-fields : (b : ℕ) (c : Cell) → keyFields bit (cellRecord b c) ≡ cellRecord bit (keyOf c)
+  unfolding keyFields turned keyOf cellRecord leNet leControl
+  key-fields b (Input l) = refl
+  key-fields b (Output x l) = refl
+  key-fields b (Buf x) = refl
+  key-fields b (Not x) = refl
+  key-fields b (And x y) = either-way And 5 0 (λ v w. refl) x y (leb (x .0) (y .0))
+  key-fields b (Or x y) = either-way Or 6 0 (λ v w. refl) x y (leb (x .0) (y .0))
+  key-fields b (Xor x y) = either-way Xor 7 0 (λ v w. refl) x y (leb (x .0) (y .0))
+  key-fields b (Mux x y z) = refl
+  key-fields b (Aig (Pos x) (Pos y)) = either-way (λ v w. Aig (Pos v) (Pos w)) 9 0 (λ v w. refl) x y (leb (x .0) (y .0))
+  key-fields b (Aig (Pos x) (Neg y)) = refl
+  key-fields b (Aig (Neg x) (Pos y)) = refl
+  key-fields b (Aig (Neg x) (Neg y)) = either-way (λ v w. Aig (Neg v) (Neg w)) 9 3 (λ v w. refl) x y (leb (x .0) (y .0))

@@ -89,7 +89,7 @@ turning-none n count ws g = record {
   upto = omega arith;
   ordered = g;
   said = refl;
-  ready = record { long = g .long; few = g .few; entered = record { each = λ i l. absurd (omega arith) } };
+  ready = record { long = g .long; few = g .few; entered = record { each = λ i l. absurd (omega arith) }; mixed = record { each = λ i l. absurd (omega arith) } };
   most = omega arith;
   frame = within-none 6144 15360 ws;
 }

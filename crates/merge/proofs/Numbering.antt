@@ -6,7 +6,8 @@ use Prim.Native.Nat.{ℕ, zero, suc, _+_, _-_, _*_, _≤_, _<_}
 use native.Mathlib.Omega.{arith}
 use native.Mathlib.Numerals.{add-one}
 use native.Mathlib.Decide.{decLt}
-use lib.ListN.{length, set}
+use lib.ListN.{length, getD, set}
+use lib.Seq.{getD-set-same}
 use Rattle.value.specs.declared.Net.{Net}
 use Rattle.value.specs.declared.ControlNet.{ControlNet}
 use Rattle.cell.specs.declared.Record.{Record}
@@ -18,20 +19,20 @@ use Rattle.cell.proofs.RoundTrips.{cell-back}
 use Rattle.netlist.specs.Areas.{wordRecord, storeWords, recordsIn, Within}
 use Rattle.netlist.specs.Shape.{visitMut}
 use Rattle.netlist.specs.Netlist.{netlistOf, cellIn, run, outputOf}
-use Rattle.netlist.proofs.Frames.{within-none, within-then, within-wider, tabulate-same, record-kept, records-kept}
+use Rattle.netlist.proofs.Frames.{within-none, within-then, within-wider, within-set, tabulate-same, word-kept, record-kept, records-kept}
 use Rattle.netlist.proofs.Areas.{Sized, store-within, stored-other, stored-same}
 use Rattle.design.specs.declared.Found.{Found}
 use Rattle.design.specs.declared.Found.the-variants.{Nothing, At}
 use Rattle.design.specs.Queue.{Design, Entry, netIn, mapNetNew, replaceNet, seek}
 use Rattle.design.specs.Words.{netlistIn, replacedIn, designIn}
 use Rattle.merge.specs.Merge.{Merging, keyOf, numbered, findOrInsert, mergeCell}
-use Rattle.merge.specs.Words.{entryOf, numbererIn, mergingIn, keyIn, keyAt, IsCell, Entered, Ready, Keyed, Keys, Numbers, NumbersAll, widthOf, Merges}
+use Rattle.merge.specs.Words.{entryOf, numbererIn, mergingIn, keyIn, keyAt, IsCell, Entered, mixOf, MixedAt, Mixed, Ready, Keyed, Keys, Numbers, NumbersAll, widthOf, Merges}
 use Rattle.design.proofs.Words.{cell-at}
 use Rattle.design.proofs.Lists.{map-table}
 use Rattle.merge.proofs.Cells.{cell-sized, replaced-stays}
 
 -- records of cells
-bit-of : (b : ℕ) (c : Cell) → cellRecord b c .bit ≡ b
+pub bit-of : (b : ℕ) (c : Cell) → cellRecord b c .bit ≡ b
 unfolding cellRecord
 bit-of b (Input l) = refl
 bit-of b (Output x l) = refl
@@ -60,10 +61,84 @@ module _ (from to : ℕ) (ws ws′ : List ℕ) (w : Within from to ws ws′) (k 
   pub entered-stays : Entered k ws → Entered k ws′
   entered-stays en = record { each = λ i l. subst IsCell (sym (entry-stays i l)) (en .each i l) }
 
+-- and the numbers of the keys
+pub mixed-stays : (from to : ℕ) (ws ws′ : List ℕ) → Within from to ws ws′ → (k : ℕ) → k ≤ 1024 → (to ≤ 8192) ⊎ (9216 + k * 4 ≤ from) → Mixed k ws → Mixed k ws′
+mixed-stays from to ws ws′ w k few apart m = record { each = λ i l. word i l ∙ m .each i l ∙ sym (ap mixOf (key i l)) }
+  where
+    key : (i : ℕ) → i < k → wordRecord ws′ (2304 + i) ≡ wordRecord ws (2304 + i)
+    key i l = record-kept from to ws ws′ w (2304 + i) (⊎-elim (λ h. inr (omega arith)) (λ h. inl (omega arith)) apart)
+
+    word : (i : ℕ) → i < k → getD ws′ (8192 + i) 0 ≡ getD ws (8192 + i) 0
+    word i l = word-kept from to ws ws′ w (8192 + i) (⊎-elim (λ h. inr (omega arith)) (λ h. inl (omega arith)) apart)
+
 pub design-stays : (from to n : ℕ) (ws ws′ : List ℕ) → 7168 ≤ from → n ≤ 512 → Within from to ws ws′ → designIn n ws′ ≡ designIn n ws
 unfolding designIn
 design-stays from to n ws ws′ far few w =
     rw (replaced-stays from to n ws ws′ far few w, records-kept from to ws ws′ w n (omega arith))
+
+-- one more key, and its number
+module _ (ws : List ℕ) (k : ℕ) (key : Record) (s : ℕ) (c : Cell) (key-is : key ≡ cellRecord s c) (ws′ : List ℕ)
+    (put : ws′ ≡ set (storeWords ws (2304 + k) key) (8192 + k) (mixOf key)) (long : 16384 ≤ length ws) (room : k < 1024) (small : s < 65536) where
+  abbrev between : List ℕ
+  between = storeWords ws (2304 + k) key
+
+  within-store : Within ((2304 + k) * 4) ((2304 + k) * 4 + 4) ws between
+  within-store = store-within ws (2304 + k) key
+
+  within-put : Within (8192 + k) (8192 + k + 1) between ws′
+  within-put =
+      subst (λ (vs : List ℕ). Within (8192 + k) (8192 + k + 1) between vs) (sym put)
+      (within-set (8192 + k) (8192 + k + 1) between (8192 + k) (mixOf key) (omega arith) (omega arith))
+
+  pub insert-within : Within 8192 13312 ws ws′
+  insert-within =
+      within-then 8192 13312 ws between ws′
+      (within-wider ((2304 + k) * 4) ((2304 + k) * 4 + 4) 8192 13312 ws between (omega arith) (omega arith) within-store)
+      (within-wider (8192 + k) (8192 + k + 1) 8192 13312 between ws′ (omega arith) (omega arith) within-put)
+
+  key-stays : (i : ℕ) → wordRecord ws′ (2304 + i) ≡ wordRecord between (2304 + i)
+  key-stays i = record-kept (8192 + k) (8192 + k + 1) between ws′ within-put (2304 + i) (inr (omega arith))
+
+  key-there : wordRecord ws′ (2304 + k) ≡ key
+  key-there = key-stays k ∙ stored-same ws (2304 + k) key (omega arith) (subst Sized (sym key-is) (cell-sized s c small))
+
+  key-before : (i : ℕ) → i < k → wordRecord ws′ (2304 + i) ≡ wordRecord ws (2304 + i)
+  key-before i l = key-stays i ∙ stored-other ws (2304 + k) key (2304 + i) (λ e. absurd (omega arith))
+
+  pub insert-numberer : numbererIn (k + 1) ws′ ≡ numbererIn k ws ++ ((c, netIn s) ∷ [])
+  unfolding numbererIn tabulate
+  insert-numberer =
+      rw (
+        add-one k,
+        tabulate-same (λ i. entryOf (wordRecord ws′ (2304 + i))) (λ i. entryOf (wordRecord ws (2304 + i))) k (λ i l. ap entryOf (key-before i l)),
+        key-there,
+        key-is,
+        cell-back s c,
+        bit-of s c,
+      )
+
+  pub insert-entered : Entered k ws → Entered (k + 1) ws′
+  insert-entered en = record { each = λ i l. go i l (decLt i k) }
+    where
+      go : (i : ℕ) → i < k + 1 → Dec (i < k) → IsCell (wordRecord ws′ (2304 + i))
+      go i l (yes m) = subst IsCell (sym (key-before i m)) (en .each i m)
+      go i l (no m) =
+          let q : k ≡ i = omega arith in
+          subst (λ (j : ℕ). IsCell (wordRecord ws′ (2304 + j))) q (is-cell (wordRecord ws′ (2304 + k)) s c (key-there ∙ key-is))
+
+  pub insert-mixed : Mixed k ws → Mixed (k + 1) ws′
+  insert-mixed mx = record { each = λ i l. go i l (decLt i k) }
+    where
+      go : (i : ℕ) → i < k + 1 → Dec (i < k) → MixedAt i ws′
+      go i l (yes m) =
+          word-kept (8192 + k) (8192 + k + 1) between ws′ within-put (8192 + i) (inl (omega arith))
+          ∙ word-kept ((2304 + k) * 4) ((2304 + k) * 4 + 4) ws between within-store (8192 + i) (inl (omega arith))
+          ∙ mx .each i m ∙ sym (ap mixOf (key-before i m))
+      go i l (no m) =
+          let q : k ≡ i = omega arith in
+          subst (λ (j : ℕ). MixedAt j ws′) q
+          (ap (λ (vs : List ℕ). getD vs (8192 + k) 0) put
+          ∙ getD-set-same between (8192 + k) (mixOf key) 0 (omega (arith, within-store .same)) ∙ sym (ap mixOf key-there))
 
 -- `find_or_insert`
 module _ (ws : List ℕ) (s : ℕ) (keyed : Keyed s (s + 1) ws) (key : Record) (key-is : key ≡ wordRecord ws (3328 + s)) where
@@ -82,9 +157,9 @@ module _ (ws : List ℕ) (s : ℕ) (keyed : Keyed s (s + 1) ws) (key : Record) (
     numbered-by d e =
         ap (numbered (mergingIn n k ws) (keyAt ws s) s) (ap (seek (numbererIn k ws)) (sym key-cell) ∙ sym v-is ∙ e)
 
-    pub numbers-found : (x : Net) → v ≡ At x → (ws′ : List ℕ) → replacedIn n ws′ ≡ set (replacedIn n ws) s x → Within 6144 7168 ws ws′ → Numbers n k s ws ws′ k
+    pub numbers-found : k < 1024 → (x : Net) → v ≡ At x → (ws′ : List ℕ) → replacedIn n ws′ ≡ set (replacedIn n ws) s x → Within 6144 7168 ws ws′ → Numbers n k s ws ws′ k
     unfolding mergingIn designIn
-    numbers-found x e ws′ q w =
+    numbers-found room x e ws′ q w =
         let few : n ≤ 512 = g .few in
         let long : 16384 ≤ length ws = g .long in
         record {
@@ -95,50 +170,34 @@ module _ (ws : List ℕ) (s : ℕ) (keyed : Keyed s (s + 1) ws) (key : Record) (
             long = omega (arith, w .same);
             few = few;
             entered = entered-stays 6144 7168 ws ws′ w k (inl (omega arith)) (g .entered);
+            mixed = mixed-stays 6144 7168 ws ws′ w k (omega arith) (inl (omega arith)) (g .mixed);
           };
           most = omega arith;
           frame = within-wider 6144 7168 6144 13312 ws ws′ (omega arith) (omega arith) w;
         }
 
-    module _ (ws′ : List ℕ) (store : ws′ ≡ storeWords ws (2304 + k) key) (room : k < 1024) (small : s < n) where
-      within : Within ((2304 + k) * 4) ((2304 + k) * 4 + 4) ws ws′
-      within = subst (λ (vs : List ℕ). Within ((2304 + k) * 4) ((2304 + k) * 4 + 4) ws vs) (sym store) (store-within ws (2304 + k) key)
-
-      stored : wordRecord ws′ (2304 + k) ≡ key
-      stored =
-          let few : n ≤ 512 = g .few in
-          let long : 16384 ≤ length ws = g .long in
-          ap (λ (vs : List ℕ). wordRecord vs (2304 + k)) store
-          ∙ stored-same ws (2304 + k) key (omega arith) (subst Sized (sym key-of-slot) (cell-sized s (keyAt ws s) (omega arith)))
-
-      entered-one : numbererIn (k + 1) ws′ ≡ numbererIn k ws ++ ((keyAt ws s, netIn s) ∷ [])
-      unfolding numbererIn tabulate
-      entered-one =
-          rw (add-one k, numberer-stays ((2304 + k) * 4) ((2304 + k) * 4 + 4) ws ws′ within k (inr (omega arith)), stored, key-cell)
-          (ap (λ (b : ℕ). numbererIn k ws ++ ((keyAt ws s, netIn b) ∷ [])) (ap (λ (r : Record). r .bit) key-of-slot ∙ bit-of s (keyAt ws s)))
-
-      entered-more : Entered (k + 1) ws′
-      entered-more = record { each = λ i l. go i l (decLt i k) }
-        where
-          go : (i : ℕ) → i < k + 1 → Dec (i < k) → IsCell (wordRecord ws′ (2304 + i))
-          go i l (yes m) = entered-stays ((2304 + k) * 4) ((2304 + k) * 4 + 4) ws ws′ within k (inr (omega arith)) (g .entered) .each i m
-          go i l (no m) =
-              let q : k ≡ i = omega arith in
-              subst (λ (j : ℕ). IsCell (wordRecord ws′ (2304 + j))) q (subst IsCell (sym stored) key-is-cell)
-
-      pub numbers-new : v ≡ Nothing → Numbers n k s ws ws′ (k + 1)
-      unfolding mergingIn
-      numbers-new e =
-          let few : n ≤ 512 = g .few in
-          let long : 16384 ≤ length ws = g .long in
-          record {
-            said =
-                rw (design-stays ((2304 + k) * 4) ((2304 + k) * 4 + 4) n ws ws′ (omega arith) few within, entered-one)
-                (sym (numbered-by Nothing e));
-            ready = record { long = omega (arith, within .same); few = few; entered = entered-more };
-            most = omega arith;
-            frame = within-wider ((2304 + k) * 4) ((2304 + k) * 4 + 4) 6144 13312 ws ws′ (omega arith) (omega arith) within;
-          }
+    pub numbers-new : (ws′ : List ℕ) → ws′ ≡ set (storeWords ws (2304 + k) key) (8192 + k) (mixOf key) → k < 1024 → s < n → v ≡ Nothing → Numbers n k s ws ws′ (k + 1)
+    unfolding mergingIn
+    numbers-new ws′ put room small e =
+        let few : n ≤ 512 = g .few in
+        let long : 16384 ≤ length ws = g .long in
+        let w : Within 8192 13312 ws ws′ = insert-within ws k key s (keyAt ws s) key-of-slot ws′ put long room (omega arith) in
+        record {
+          said =
+              rw (
+                design-stays 8192 13312 n ws ws′ (omega arith) few w,
+                insert-numberer ws k key s (keyAt ws s) key-of-slot ws′ put long room (omega arith),
+              )
+              (sym (numbered-by Nothing e));
+          ready = record {
+            long = omega (arith, w .same);
+            few = few;
+            entered = insert-entered ws k key s (keyAt ws s) key-of-slot ws′ put long room (omega arith) (g .entered);
+            mixed = insert-mixed ws k key s (keyAt ws s) key-of-slot ws′ put long room (omega arith) (g .mixed);
+          };
+          most = omega arith;
+          frame = within-wider 8192 13312 6144 13312 ws ws′ (omega arith) (omega arith) w;
+        }
 
 -- the loop of `find_or_insert_all`: one key after another
 abbrev step : Merging → Cell → ℕ → Merging
@@ -230,7 +289,7 @@ module _ (n s e : ℕ) (ws ws₁ : List ℕ) (q : Keys n s e ws ws₁) where
   pub keys-ready : (k : ℕ) → Ready n k ws → k + widthOf (netlistIn n ws .bits) s ≤ 1024 → Ready n k ws₁
   keys-ready k g r =
       let long : 16384 ≤ length ws = g .long in
-      record { long = omega (arith, q .frame .same); few = g .few; entered = entered-stays 13312 15360 ws ws₁ (q .frame) k (inr (omega arith)) (g .entered) }
+      record { long = omega (arith, q .frame .same); few = g .few; entered = entered-stays 13312 15360 ws ws₁ (q .frame) k (inr (omega arith)) (g .entered); mixed = mixed-stays 13312 15360 ws ws₁ (q .frame) k (omega arith) (inr (omega arith)) (g .mixed) }
 
   module _ (k : ℕ) (g : Ready n k ws) (e-is : e ≡ s + widthOf (netlistIn n ws .bits) s) (inside : e ≤ n) (r : k + widthOf (netlistIn n ws .bits) s ≤ 1024) where
     merging-same : mergingIn n k ws₁ ≡ mergingIn n k ws

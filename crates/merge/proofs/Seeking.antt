@@ -38,7 +38,7 @@ bit-apart b (Xor x y) = refl
 bit-apart b (Mux x y z) = refl
 bit-apart b (Aig p q) = refl
 
-eq-cells : (x y : Record) → IsCell x → IsCell y → eqRecord x y ≡ eqCell (cellOf x) (cellOf y)
+pub eq-cells : (x y : Record) → IsCell x → IsCell y → eqRecord x y ≡ eqCell (cellOf x) (cellOf y)
 unfolding eqCell eqRecord
 eq-cells x y p q =
     ap (λ (r : Record). eqRecord r y) (p .back ∙ bit-apart (x .bit) (cellOf x))
@@ -89,7 +89,7 @@ module _ (ws : List ℕ) (c : Cell) where
   abbrev entry : ℕ → Entry
   entry i = entryOf (wordRecord ws (2304 + i))
 
-  one-of : (i : ℕ) → seek (numbererIn i ws) c ≡ Nothing → seek (numbererIn (suc i) ws) c ≡ cond (eqCell (entry i .0) c) (At (entry i .1)) Nothing
+  pub one-of : (i : ℕ) → seek (numbererIn i ws) c ≡ Nothing → seek (numbererIn (suc i) ws) c ≡ cond (eqCell (entry i .0) c) (At (entry i .1)) Nothing
   unfolding numbererIn tabulate seek
   one-of i e = seek-past (numbererIn i ws) (entry i ∷ []) c e
 
@@ -118,12 +118,12 @@ module _ (k : ℕ) (ws : List ℕ) (key : Record) (i : ℕ) (g : Seeking k ws ke
   pub seeking-end : k ≤ i → Nothing ≡ seek (numbererIn k ws) (cellOf key)
   seeking-end h = let q : i ≡ k = let u : i ≤ k = g .upto in omega arith in sym (subst (λ (j : ℕ). seek (numbererIn j ws) (cellOf key) ≡ Nothing) q (g .missed))
 
-  module _ (l : i < k) (en : Entered k ws) (z : IsCell key) (r : Record) (r-is : r ≡ wordRecord ws (2304 + i)) (b : Bool) (b-is : b ≡ eqRecord r key) where
+  module _ (l : i < k) (en : Entered k ws) (z : IsCell key) (b : Bool) (b-is : b ≡ eqRecord (wordRecord ws (2304 + i)) key) where
     tested : b ≡ eqCell (cellOf (wordRecord ws (2304 + i))) (cellOf key)
-    tested = b-is ∙ ap (λ (x : Record). eqRecord x key) r-is ∙ eq-cells (wordRecord ws (2304 + i)) key (en .each i l) z
+    tested = b-is ∙ eq-cells (wordRecord ws (2304 + i)) key (en .each i l) z
 
-    pub seeking-found : b ≡ true → (x : Net) → x ≡ netOf (slotAt (r .bit)) → At x ≡ seek (numbererIn k ws) (cellOf key)
-    seeking-found t x e =
+    pub seeking-found : b ≡ true → (r : Record) → r ≡ wordRecord ws (2304 + i) → (x : Net) → x ≡ netOf (slotAt (r .bit)) → At x ≡ seek (numbererIn k ws) (cellOf key)
+    seeking-found t r r-is x e =
         ap At (e ∙ ap (λ (y : Record). netIn (y .bit)) r-is) ∙ sym (at-first ws (cellOf key) k i l (g .missed) (sym tested ∙ t))
 
     pub seeking-more : b ≡ false → Seeking k ws key (i + 1)

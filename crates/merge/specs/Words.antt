@@ -1,14 +1,15 @@
 -- Merging in the words of the work slice. Public contracts do not cite this file: at return the words are 0.
 -- Assumes nothing: these are definitions.
 use mathlib.Core.Path.{_≡_}
-use mathlib.Core.Bool.{Bool, cond, not}
+use mathlib.Core.Bool.{Bool, cond, not, _&&_, _||_}
 use mathlib.Core.List.{List, [], _∷_}
 use mathlib.Core.Logic.{_⊎_}
-use Prim.Native.Nat.{ℕ, suc, _+_, _-_, _≤_, _<_}
+use Prim.Native.Nat.{ℕ, suc, _+_, _-_, _*_, _%_, _≤_, _<_}
+use lib.Dec.{eqb, leb}
 use lib.ListN.{length, getD, drop}
 use Rattle.cell.specs.declared.Record.{Record}
 use Rattle.cell.specs.declared.Cell.{Cell}
-use Rattle.cell.specs.Records.{cellOf, cellRecord}
+use Rattle.cell.specs.Records.{recordOf, cellOf, cellRecord}
 use Rattle.cell.specs.Tabulate.{tabulate}
 use Rattle.netlist.specs.Areas.{wordRecord, recordsIn, wordsIn, orderAt, Within}
 use Rattle.netlist.specs.Shape.{visitMut, hasEffects}
@@ -22,6 +23,19 @@ use Rattle.merge.specs.Merge.{Merging, keyOf, numbered, findOrInsert, me
 pub record Sequenced (bits : List ℕ) : Type 0 where
   pub next : (s : ℕ) → s < length bits → (getD bits s 0 ≡ 0) ⊎ (getD bits s 0 ≡ getD bits (s - 1) 0 + 1)
 
+-- the key of a cell by the fields of its record: whether two operands are exchanged, which flags are then, and the key's record
+unfoldable pub turned : Record → Bool
+turned r =
+    ((leb 5 (r .kind) && leb (r .kind) 7) || eqb (r .kind) 9) && (eqb (r .flags) 1 || (not (eqb (r .flags) 2) && not (leb (r .a) (r .b))))
+
+unfoldable pub keyFields : ℕ → Record → Record
+keyFields bit r =
+    recordOf (r .kind) (cond (eqb (r .flags) 1) 2 (r .flags)) bit (cond (turned r) (r .b) (r .a)) (cond (turned r) (r .a) (r .b)) (r .c)
+
+-- a number that equal keys have in common; it does not look at the bit
+unfoldable pub mixOf : Record → ℕ
+mixOf r = r .a % 2048 + 2048 * (r .b % 2048 + 2048 * (r .kind % 16 + 16 * (r .flags % 4 + 4 * (r .c % 16))))
+
 -- keys stand as records whose bit is the slot of the cell, four words each: those of the numberer from word 9216 on, and those of a
 -- cell that is being merged from word 13312 on, at its slots
 abbrev pub numbererAt : ℕ
@@ -29,6 +43,10 @@ numbererAt = 2304
 
 abbrev pub keysAt : ℕ
 keysAt = 3328
+
+-- the numbers of the numberer's keys
+abbrev pub mixesAt : ℕ
+mixesAt = 8192
 
 abbrev pub entryOf : Record → Entry
 entryOf r = (cellOf r, netIn (r .bit))
@@ -54,11 +72,23 @@ pub record IsCell (r : Record) : Type 0 where
 pub record Entered (k : ℕ) (ws : List ℕ) : Type 0 where
   pub each : (i : ℕ) → i < k → IsCell (wordRecord ws (numbererAt + i))
 
+-- and their numbers
+abbrev pub MixedAt : ℕ → List ℕ → Type 0
+MixedAt i ws = getD ws (mixesAt + i) 0 ≡ mixOf (wordRecord ws (numbererAt + i))
+
+pub record Mixed (k : ℕ) (ws : List ℕ) : Type 0 where
+  pub each : (i : ℕ) → i < k → MixedAt i ws
+
+-- a count that is 0 only if none of the keys has a number
+pub record Counts (k x : ℕ) (ws : List ℕ) (r : ℕ) : Type 0 where
+  pub none : r ≡ 0 → (i : ℕ) → i < k → getD ws (mixesAt + i) 0 ≡ x → ⊥
+
 -- what merging asks
 pub record Ready (n k : ℕ) (ws : List ℕ) : Type 0 where
   pub long : 16384 ≤ length ws
   pub few : n ≤ 512
   pub entered : Entered k ws
+  pub mixed : Mixed k ws
 
 -- the keys of the slots from s up to e stand in their places
 pub record Keyed (s e : ℕ) (ws : List ℕ) : Type 0 where

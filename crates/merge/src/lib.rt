@@ -1,59 +1,50 @@
 // Merging of equal cells, after generic/src/merge.rs. The keys that were looked for and not found stand in an area of the work slice, each
 // as a record whose bit is the slot of the cell.
-use cell::Cell;
 use cell::Record;
 use design::Found;
-use design::Renaming;
+use design::visit;
 use value::Net;
 use value::Slot;
 ghost use mathlib.Core.Path.{_≡_};
 ghost use Prim.Native.Nat.{_+_, _-_, _≤_, _<_};
-ghost use lib.ListN.{length};
+ghost use lib.ListN.{length, set};
 ghost use Rattle.cell.specs.Records.{cellOf, cellRecord};
-ghost use Rattle.netlist.specs.Areas.{storeWords};
-ghost use Rattle.netlist.specs.Shape.{hasEffects};
+ghost use Rattle.netlist.specs.Areas.{wordRecord, storeWords};
 ghost use Rattle.design.specs.Queue.{eqRecord, seek};
 ghost use Rattle.design.specs.Words.{netlistIn};
-ghost use Rattle.merge.specs.Merge.{keyOf};
-ghost use Rattle.merge.specs.Words.{keysAt, numbererIn, keyIn, IsCell, Entered, Ready, Keyed, Keys, Numbers, NumbersAll, Merges, widthOf, loadOf, MergesNext, Sequenced, Ordered, MergesCells, MergesAll, MergesNetlist};
+ghost use Rattle.merge.specs.Words.{turned, keyFields, mixOf, keysAt, numbererAt, mixesAt, numbererIn, keyIn, IsCell, Entered, MixedAt, Mixed, Counts, Ready, Keyed, Keys, Numbers, NumbersAll, Merges, widthOf, loadOf, MergesNext, Sequenced, Ordered, MergesCells, MergesAll, MergesNetlist};
 
 // Where the numberer's keys stand, and those of a cell that is being merged, as slots of four words.
 const NUMBERER: u32 = 2304;
 
 const KEYS: u32 = 3328;
 
+// Where the mixes of the numberer's keys stand, a word each.
+const MIXES: usize = 8192;
+
 const ORDER: usize = 5120;
 
-// The cell that is looked for: commutative operands in their order.
-fn key_of(c: Cell) -> Cell
-    ensures { λ r. ⌜ r ≡ keyOf c ⌝ }
+// Whether a commutative cell's operands are exchanged in its key; its record has nothing in fields that its kind does not use.
+fn is_turned(r: Record) -> bool
+    ensures { λ t. ⌜ t ≡ turned r ⌝ }
 {
-    match c {
-        Cell::Input(l) => Cell::Input(l),
-        Cell::Output(x, l) => Cell::Output(x, l),
-        Cell::Buf(x) => Cell::Buf(x),
-        Cell::Not(x) => Cell::Not(x),
-        Cell::And(x, y) => if value::net_le(x, y) {
-            Cell::And(x, y)
-        } else {
-            Cell::And(y, x)
-        },
-        Cell::Or(x, y) => if value::net_le(x, y) {
-            Cell::Or(x, y)
-        } else {
-            Cell::Or(y, x)
-        },
-        Cell::Xor(x, y) => if value::net_le(x, y) {
-            Cell::Xor(x, y)
-        } else {
-            Cell::Xor(y, x)
-        },
-        Cell::Mux(x, y, z) => Cell::Mux(x, y, z),
-        Cell::Aig(p, q) => if value::control_le(p, q) {
-            Cell::Aig(p, q)
-        } else {
-            Cell::Aig(q, p)
-        },
+    let commutes = logic::either(logic::both(5 <= r.kind, r.kind <= 7), r.kind == 9);
+    let descends = logic::both(r.flags != 2, !(r.a <= r.b));
+    logic::both(commutes, logic::either(r.flags == 1, descends))
+}
+
+// The record of the key of a cell's record, with a bit of its own.
+fn key_record(bit: u16, r: Record) -> Record
+    ensures { λ x. ⌜ x ≡ keyFields bit r ⌝ }
+{
+    let turned = is_turned(r);
+    Record {
+        kind: r.kind,
+        flags: visit::pick8(r.flags == 1, 2, r.flags),
+        bit,
+        a: visit::pick32(turned, r.b, r.a),
+        b: visit::pick32(turned, r.a, r.b),
+        c: r.c,
     }
 }
 
@@ -63,8 +54,8 @@ fn put_key(work: &mut [u32], n: u32, s: Slot)
     requires { ⌜ s .0 < n ⌝ }
     ensures { λ _. ⌜ now (work .exit) ≡ storeWords (now (work .entry)) (keysAt + s .0) (cellRecord (s .0) (keyIn n (now (work .entry)) (s .0))) ⌝ }
 {
-    let c = design::visit::visit_mut(work, n, Renaming::Replaced, netlist::cell_in(work, s));
-    let key = cell::cell_record(s.0 as u16, key_of(c));
+    let own = visit::plain(netlist::record_in(work, s));
+    let key = key_record(s.0 as u16, design::queue::replaced_record(work, n, own));
     netlist::put_record(work, Slot(KEYS + s.0), key);
 }
 
@@ -108,22 +99,87 @@ fn same_key(x: Record, y: Record) -> bool
     false
 }
 
-// Looks for a key, from the first entry on.
-fn find(work: &[u32], k: u32, key: Record) -> Found
+// A number that equal keys have in common. One comparison of it tells most keys apart.
+fn mix(r: Record) -> u32
+    ensures { λ x. ⌜ x ≡ mixOf r ⌝ }
+{
+    let rest = (r.flags as u32) % 4 + 4 * (r.c % 16);
+    r.a % 2048 + 2048 * (r.b % 2048 + 2048 * ((r.kind as u32) % 16 + 16 * rest))
+}
+
+// How many of the first k entries have a mix; what stands behind them is counted too, up to a multiple of 16. Since it does not stop at
+// the first and has a whole number of rounds, it takes several entries at a time.
+fn count_mix(work: &[u32], k: u32, x: u32) -> u32
+    requires { ⌜ 16384 ≤ length (now work) ⌝ }
+    requires { ⌜ k ≤ 1024 ⌝ }
+    ensures { λ r. ⌜ Counts k x (now (work .entry)) r ⌝ }
+{
+    let end = (k as usize + 15) / 16 * 16;
+    let mut i: usize = 0;
+    let mut count: u32 = 0;
+    while i < end {
+        count += visit::pick32(work[MIXES + i] == x, 1, 0);
+        i += 1;
+    }
+    count
+}
+
+// Whether an entry has a key, whose mix is x.
+fn same_at(work: &[u32], i: u32, key: Record, x: u32) -> bool
+    requires { ⌜ i < 1024 ⌝ }
+    requires { ⌜ MixedAt i (now work) ⌝ }
+    requires { ⌜ x ≡ mixOf key ⌝ }
+    ensures { λ r. ⌜ r ≡ eqRecord (wordRecord (now (work .entry)) (numbererAt + i)) key ⌝ }
+{
+    if cell::word(work, MIXES + (i as usize)) == x {
+        return same_key(netlist::record_in(work, Slot(NUMBERER + i)), key);
+    }
+    false
+}
+
+// Looks for a key, whose mix is x, from the first entry on.
+fn find_first(work: &[u32], k: u32, key: Record, x: u32) -> Found
     requires { ⌜ k ≤ 1024 ⌝ }
     requires { ⌜ Entered k (now work) ⌝ }
+    requires { ⌜ Mixed k (now work) ⌝ }
     requires { ⌜ IsCell key ⌝ }
+    requires { ⌜ x ≡ mixOf key ⌝ }
     ensures { λ r. ⌜ r ≡ seek (numbererIn k (now (work .entry))) (cellOf key) ⌝ }
 {
     let mut i: u32 = 0;
     while i < k {
-        let r = netlist::record_in(work, Slot(NUMBERER + i));
-        if same_key(r, key) {
+        if same_at(work, i, key, x) {
+            let r = netlist::record_in(work, Slot(NUMBERER + i));
             return Found::At(Net::from_cell_index(Slot(r.bit as u32)));
         }
         i += 1;
     }
     Found::Nothing
+}
+
+// Looks for a key.
+pub fn find(work: &[u32], k: u32, key: Record) -> Found
+    requires { ⌜ 16384 ≤ length (now work) ⌝ }
+    requires { ⌜ k ≤ 1024 ⌝ }
+    requires { ⌜ Entered k (now work) ⌝ }
+    requires { ⌜ Mixed k (now work) ⌝ }
+    requires { ⌜ IsCell key ⌝ }
+    ensures { λ r. ⌜ r ≡ seek (numbererIn k (now (work .entry))) (cellOf key) ⌝ }
+{
+    let x = mix(key);
+    if count_mix(work, k, x) == 0 {
+        return Found::Nothing;
+    }
+    find_first(work, k, key, x)
+}
+
+// Enters a key behind the first k.
+pub fn insert(work: &mut [u32], k: u32, key: Record)
+    requires { ⌜ k < 1024 ⌝ }
+    ensures { λ _. ⌜ now (work .exit) ≡ set (storeWords (now (work .entry)) (numbererAt + k) key) (mixesAt + k) (mixOf key) ⌝ }
+{
+    netlist::put_record(work, Slot(NUMBERER + k), key);
+    cell::put(work, MIXES + (k as usize), mix(key));
 }
 
 // Looks for the key in a slot's place: the slot's net is replaced by the net that has it, or the key is entered for it.
@@ -141,7 +197,7 @@ fn find_or_insert(work: &mut [u32], n: u32, k: u32, s: Slot) -> u32
             k
         }
         Found::Nothing => {
-            netlist::put_record(work, Slot(NUMBERER + k), key);
+            insert(work, k, key);
             k + 1
         }
     }
@@ -177,22 +233,6 @@ fn merge_cell(work: &mut [u32], n: u32, k: u32, s: Slot) -> u32
     find_or_insert_all(work, n, k, s, e)
 }
 
-fn has_effects(c: Cell) -> bool
-    ensures { λ r. ⌜ r ≡ hasEffects c ⌝ }
-{
-    match c {
-        Cell::Input(_) => true,
-        Cell::Output(_, _) => true,
-        Cell::Buf(_) => false,
-        Cell::Not(_) => false,
-        Cell::And(_, _) => false,
-        Cell::Or(_, _) => false,
-        Cell::Xor(_, _) => false,
-        Cell::Mux(_, _, _) => false,
-        Cell::Aig(_, _) => false,
-    }
-}
-
 // Merges a cell unless it has effects.
 fn merge_next(work: &mut [u32], n: u32, k: u32, s: Slot) -> u32
     requires { ⌜ Ready n k (now work) ⌝ }
@@ -200,7 +240,7 @@ fn merge_next(work: &mut [u32], n: u32, k: u32, s: Slot) -> u32
     requires { ⌜ k + loadOf (netlistIn n (now work)) (s .0) ≤ 1024 ⌝ }
     ensures { λ r. ⌜ MergesNext n k (s .0) (now (work .entry)) (now (work .exit)) r ⌝ }
 {
-    if has_effects(netlist::cell_in(work, s)) {
+    if design::compact::has_effects(netlist::cell_in(work, s)) {
         return k;
     }
     merge_cell(work, n, k, s)

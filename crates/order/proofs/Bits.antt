@@ -89,10 +89,6 @@ pub input-word : (ws : List ℕ) (s x : ℕ) → x ≡ getD ws (s * 4) 0 → eqb
 unfolding wordRecord
 input-word ws s x e = ap (λ (y : ℕ). eqb (y % 256) 1) e ∙ sym (input-kind (wordRecord ws s))
 
-pub aig-operands : (c : Cell) (p q : ControlNet) (a b : Net) → c ≡ Aig p q → a ≡ net p → b ≡ net q → record { 0 = a; 1 = b; 2 = ZERO } ≡ operandsOf c
-unfolding operandsOf
-aig-operands c p q a b e f g = rw (e, f, g)
-
 -- lists that pass a test
 pub those-append : {A : Type 0} (p : A → Bool) (xs ys : List A) → those p (xs ++ ys) ≡ those p xs ++ those p ys
 unfolding those
@@ -218,12 +214,12 @@ module _ (n count : ℕ) (ws ws₁ : List ℕ) (o : Operands) (c₁ : ℕ) (g : 
 
 -- a bit that was not visited
 module _ (n count : ℕ) (ws ws₁ ws₂ : List ℕ) (s : ℕ) (g : Ready n count ws) (new : visitedIn n ws s ≡ false) (o : ws₁ ≡ set ws (4096 + s) 1)
-    (cell : Cell) (a : cell ≡ cellOf (wordRecord ws s)) (reads : Operands) (b : reads ≡ operandsOf cell) (c : ℕ)
+    (reads : Operands) (b : reads ≡ operandsOf (cellOf (wordRecord ws s))) (c : ℕ)
     (v : Walks bitsBy (operandBits (recordsIn n ws₁) reads) n count ws₁ ws₂ c) where
   down : Walks bitsBy (bitsBy (recordsIn n ws₁) s) n count ws₁ ws₂ c
   down =
       subst (λ (xs : List ℕ). Walks bitsBy xs n count ws₁ ws₂ c)
-      (ap (operandBits (recordsIn n ws₁)) (b ∙ ap operandsOf (a ∙ sym (cell-at n ws s (new-below n ws s new))
+      (ap (operandBits (recordsIn n ws₁)) (b ∙ ap operandsOf (sym (cell-at n ws s (new-below n ws s new))
       ∙ ap (λ (rs : List Record). cellIn (map cellOf rs) s) (sym (marked-records n count ws ws₁ s g new o))))
       ∙ sym (bits-by (recordsIn n ws₁) s)) v
 

@@ -133,11 +133,11 @@ module _ (n : ℕ) (ws : List ℕ) (from best : ℕ) where
     net-start s q y p r v = rw (sym e ∙ q, ← p) v
 
   -- the operands of a bit
-  pub bit-lowers : (s : ℕ) → s < n → (cell : Cell) → cell ≡ cellOf (wordRecord ws s) → (o : Operands) → o ≡ operandsOf cell → (r₁ r₂ r₃ : ℕ)
+  pub bit-lowers : (s : ℕ) → s < n → (o : Operands) → o ≡ operandsOf (cellOf (wordRecord ws s)) → (r₁ r₂ r₃ : ℕ)
       → Lowers n ws from (startsOf (recordsIn n ws) (o .0)) best r₁ → Lowers n ws from (startsOf (recordsIn n ws) (o .1)) r₁ r₂
       → Lowers n ws from (startsOf (recordsIn n ws) (o .2)) r₂ r₃ → Lowers n ws from (bitReads (recordsIn n ws) s) best r₃
-  bit-lowers s l cell a o b r₁ r₂ r₃ v₁ v₂ v₃ =
-      let q : operandsOf (cellIn (map cellOf (recordsIn n ws)) s) ≡ o = ap operandsOf (cell-at n ws s l ∙ sym a) ∙ sym b in
+  bit-lowers s l o b r₁ r₂ r₃ v₁ v₂ v₃ =
+      let q : operandsOf (cellIn (map cellOf (recordsIn n ws)) s) ≡ o = ap operandsOf (cell-at n ws s l) ∙ sym b in
       subst (λ (xs : List ℕ). Lowers n ws from xs best r₃)
       (append-assoc (startsOf (recordsIn n ws) (o .0)) (startsOf (recordsIn n ws) (o .1)) (startsOf (recordsIn n ws) (o .2))
       ∙ sym (reads-operands (recordsIn n ws) s o q))

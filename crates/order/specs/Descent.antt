@@ -1,12 +1,12 @@
 -- How the walks go down from an item. Assumes nothing: these are definitions.
 use mathlib.Core.Path.{_≡_}
-use mathlib.Core.Bool.{true, false, not, _&&_}
+use mathlib.Core.Bool.{true, false, cond, not, _&&_}
 use mathlib.Core.List.{List, _++_, map}
 use Prim.Native.Nat.{ℕ, suc, _+_, _<_, _≤_}
 use lib.Dec.{eqb, leb}
 use lib.ListN.{length, drop}
 use Rattle.value.specs.declared.Net.{Net}
-use Rattle.value.specs.Value.{ZERO, net, driver}
+use Rattle.value.specs.Value.{ZERO, netAt, net, driver}
 use Rattle.cell.specs.declared.Record.{Record}
 use Rattle.cell.specs.declared.Cell.{Cell}
 use Rattle.cell.specs.declared.Cell.the-variants.{Input, Output, Buf, Not, And, Or, Xor, Mux, Aig}
@@ -28,6 +28,12 @@ operandsOf (Or a b) = record { 0 = a; 1 = b; 2 = ZERO }
 operandsOf (Xor a b) = record { 0 = a; 1 = b; 2 = ZERO }
 operandsOf (Mux a b c) = record { 0 = a; 1 = b; 2 = c }
 operandsOf (Aig p q) = record { 0 = net p; 1 = net q; 2 = ZERO }
+
+-- the same by the fields of a record
+unfoldable pub fieldOperands : Record → Operands
+fieldOperands r =
+    let k = r .kind in
+    record { 0 = netAt (cond (eqb k 1) 0 (r .a)); 1 = netAt (cond (leb 1 k && leb k 4) 0 (r .b)); 2 = netAt (cond (eqb k 8) (r .c) 0) }
 
 -- the bit that a net leads down to: its slot unless that is an input
 unfoldable pub bitsOf : List Record → Net → List ℕ

@@ -1,11 +1,10 @@
 // Orders, after netlist/src/design.rs: the bits and the cells of a netlist, operands before readers. The marks of the walk and the
 // order stand in areas of the work slice behind the records.
-use cell::Cell;
 use value::Driver;
 use value::Net;
 use value::Slot;
 ghost use mathlib.Core.Path.{_≡_};
-ghost use mathlib.Core.Bool.{false};
+ghost use mathlib.Core.Bool.{false, cond};
 ghost use mathlib.Core.List.{[], _∷_};
 ghost use Prim.Native.Nat.{_+_, _≤_, _<_};
 ghost use lib.ListN.{length, getD};
@@ -24,20 +23,23 @@ const ORDER: usize = 5120;
 // The nets that a cell reads, by field; a constant where there is none.
 struct Operands(Net, Net, Net);
 
-fn operands_of(c: Cell) -> Operands
-    ensures { λ r. ⌜ r ≡ operandsOf c ⌝ }
+fn pick(b: bool, x: u32, y: u32) -> u32
+    ensures { λ r. ⌜ r ≡ cond b x y ⌝ }
 {
-    match c {
-        Cell::Input(_) => Operands(Net::ZERO, Net::ZERO, Net::ZERO),
-        Cell::Output(x, _) => Operands(x, Net::ZERO, Net::ZERO),
-        Cell::Buf(x) => Operands(x, Net::ZERO, Net::ZERO),
-        Cell::Not(x) => Operands(x, Net::ZERO, Net::ZERO),
-        Cell::And(x, y) => Operands(x, y, Net::ZERO),
-        Cell::Or(x, y) => Operands(x, y, Net::ZERO),
-        Cell::Xor(x, y) => Operands(x, y, Net::ZERO),
-        Cell::Mux(x, y, z) => Operands(x, y, z),
-        Cell::Aig(p, q) => Operands(p.net(), q.net(), Net::ZERO),
-    }
+    if b { x } else { y }
+}
+
+// Those of a slot's cell, from the fields of its record. No branch on the kind, which is hard to predict.
+fn operands_at(work: &[u32], s: Slot) -> Operands
+    ensures { λ r. ⌜ r ≡ operandsOf (cellOf (wordRecord (now (work .entry)) (s .0))) ⌝ }
+{
+    let r = netlist::record_in(work, s);
+    let no_b = logic::both(1 <= r.kind, r.kind <= 4);
+    Operands(
+        Net(pick(r.kind == 1, 0, r.a)),
+        Net(pick(no_b, 0, r.b)),
+        Net(pick(r.kind == 8, r.c, 0)),
+    )
 }
 
 // Whether the cell of a slot is an input.
@@ -93,7 +95,7 @@ fn visit_bit(work: &mut [u32], n: u32, s: Slot, count: u32) -> u32
     requires { ⌜ visitedIn n (now work) (s .0) ≡ false ⌝ }
     ensures { λ r. ⌜ Walks bitsBy (s .0 ∷ []) n count (now (work .entry)) (now (work .exit)) r ⌝ }
 {
-    let reads = operands_of(netlist::cell_in(work, s));
+    let reads = operands_at(work, s);
     cell::put(work, VISITED + (s.0 as usize), 1);
     let c = walk_operands(work, n, reads, count);
     cell::put(work, ORDER + (c as usize), s.0);
@@ -194,7 +196,7 @@ fn lower_bit(work: &[u32], n: u32, s: Slot, from: u32, best: u32) -> u32
     requires { ⌜ s .0 < n ⌝ }
     ensures { λ r. ⌜ Lowers n (now (work .entry)) from (bitReads (recordsIn n (now (work .entry))) (s .0)) best r ⌝ }
 {
-    let reads = operands_of(netlist::cell_in(work, s));
+    let reads = operands_at(work, s);
     let first = lower_net(work, n, reads.0, from, best);
     let second = lower_net(work, n, reads.1, from, first);
     lower_net(work, n, reads.2, from, second)

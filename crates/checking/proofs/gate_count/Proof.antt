@@ -24,7 +24,7 @@ loop-holds c = search counts-none
 
 -- src/lib.rt:216:30
 kind-at-requires : tie.Need-kind-at-requires Inv-loop μ-loop
-kind-at-requires c κs = search needs
+kind-at-requires c κs = omega arith
 
 -- src/lib.rt:216:16
 kind-of-requires : tie.Need-kind-of-requires Inv-loop μ-loop

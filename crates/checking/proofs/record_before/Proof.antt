@@ -11,7 +11,7 @@ use Rattle.cell.proofs.record_at.Reads as record-at-reads
 
 -- src/lib.rt:162:9
 record-at-requires : tie.Need-record-at-requires
-record-at-requires c κs = search needs
+record-at-requires c κs = omega arith
 
 -- src/lib.rt:162:9
 returns : tie.Need-returns
@@ -23,7 +23,7 @@ sub-t6 c = search needs
 
 -- src/lib.rt:164:5
 record-at-requires-2 : tie.Need-record-at-requires-2
-record-at-requires-2 c κs = search needs
+record-at-requires-2 c κs = omega arith
 
 -- src/lib.rt:157:1
 returns-2 : tie.Need-returns-2

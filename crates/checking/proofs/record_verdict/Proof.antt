@@ -1,3 +1,4 @@
+use native.Mathlib.Omega.{arith}
 use Rattle.checking.proofs.Records.{refuses-4, refuses-5, refuses-6, refuses-7, refuses-none}
 use borrow.Author.Needs.{needs}
 use Rattle.checking.proofs.record_verdict.Statement.{statement}
@@ -13,7 +14,7 @@ use Rattle.checking.proofs.unknown_kind.Reads as unknown-kind-reads
 
 -- src/lib.rt:176:9
 record-at-requires : tie.Need-record-at-requires
-record-at-requires c κs = search needs
+record-at-requires c κs = omega arith
 
 -- src/lib.rt:177:8
 unknown-kind-requires : tie.Need-unknown-kind-requires
@@ -33,7 +34,7 @@ returns-2 c = search refuses-5
 
 -- src/lib.rt:183:22
 record-before-requires : tie.Need-record-before-requires
-record-before-requires c κs = search needs
+record-before-requires c κs = omega arith
 
 -- src/lib.rt:183:8
 out-of-sequence-requires : tie.Need-out-of-sequence-requires

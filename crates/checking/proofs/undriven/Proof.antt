@@ -1,3 +1,4 @@
+use native.Mathlib.Omega.{arith}
 use Rattle.checking.proofs.Records.{undriven-past, undriven-kind}
 use borrow.Author.Needs.{needs}
 use Rattle.checking.proofs.undriven.Statement.{statement}
@@ -20,7 +21,7 @@ returns c = search undriven-past
 
 -- src/lib.rt:131:13
 kind-at-requires : tie.Need-kind-at-requires
-kind-at-requires c κs = search needs
+kind-at-requires c κs = omega arith
 
 -- src/lib.rt:121:1
 returns-2 : tie.Need-returns-2

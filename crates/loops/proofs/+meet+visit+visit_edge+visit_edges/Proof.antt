@@ -1,13 +1,12 @@
 -- The proof of the cycle of calls {meet, visit, visit_edge, visit_edges}. The measure is eight times the number of slots that are not
--- visited, and less than eight more by the member and the field. Assumes nothing.
+-- visited, and less than eight more by the member. Assumes nothing.
 use borrow.Author.Needs.{needs}
 use native.Mathlib.Omega.{arith}
-use lib.Dec.{lit≤}
 use lib.ListN.{length}
 use Rattle.cell.specs.Records.{recordsOf}
 use Rattle.loops.specs.Walk.{unvisited}
 use Rattle.loops.proofs.Marks.{opens}
-use Rattle.loops.proofs.Steps.{meet-new, meet-visited, meet-open, meet-passed, meet-finished, edges-none, edges-looped, edges-ready, edges-falls, edges-more, edge-nowhere, edge-coming, edge-met, visit-falls, visit-looped, visit-next, visit-done}
+use Rattle.loops.proofs.Steps.{meet-new, meet-visited, meet-open, meet-passed, meet-finished, edges-inside, edges-looped, edges-ready, edges-falls, edges-more, more-looped, more-falls, more-ready, edge-nowhere, edge-coming, edge-met, visit-falls, visit-looped, visit-next, visit-done}
 use Prim.Native.Nat.{ℕ, _+_, _*_, _<_}
 use borrow.Fn.Kinds.{In}
 use borrow.Fn.PlainCycle.{Measures, is, falls, and}
@@ -41,7 +40,7 @@ abbrev μ-visit-edge : Measures 2 visit-edge-kinds.ps ℕ
 μ-visit-edge κs a = 8 * unvisited (length (recordsOf (a .1 .0 .now))) (a .0 .now) + 2
 
 abbrev μ-visit-edges : Measures 2 visit-edges-kinds.ps ℕ
-μ-visit-edges κs a = 8 * unvisited (length (recordsOf (a .1 .0 .now))) (a .0 .now) + ((a .1 .1 .1 .1 .0) + 3)
+μ-visit-edges κs a = 8 * unvisited (length (recordsOf (a .1 .0 .now))) (a .0 .now) + 3
 
 abbrev meet-at : ℕ → In 2 meet-kinds.ps
 meet-at t = and 2 meet-kinds.ps (is 2 meet-kinds.ps μ-meet t) meet.Pre
@@ -213,39 +212,7 @@ visit-visit-edges-requires : (t : ℕ) → visit-lts.Need-visit-edges-requires (
   visit-edges-below t,
   visit-edges.Post,
 ) (visit-at t) visit.Post
-visit-visit-edges-requires t c κs = (search (visit-falls, lit≤, tt), search opens)
-
-visit-enum-told : (t : ℕ) → visit-lts.Need-enum-told (
-  put-reads.Asked,
-  put-reads.Learnt,
-  visit-edges-below t,
-  visit-edges.Post,
-) (visit-at t) visit.Post
-visit-enum-told t c = search needs
-
-visit-enum-known-c : (t : ℕ) → visit-lts.Need-enum-known-c (
-  put-reads.Asked,
-  put-reads.Learnt,
-  visit-edges-below t,
-  visit-edges.Post,
-) (visit-at t) visit.Post
-visit-enum-known-c t c = search needs
-
-visit-put-requires-2 : (t : ℕ) → visit-lts.Need-put-requires-2 (
-  put-reads.Asked,
-  put-reads.Learnt,
-  visit-edges-below t,
-  visit-edges.Post,
-) (visit-at t) visit.Post
-visit-put-requires-2 t c κs = search needs
-
-visit-add-t18 : (t : ℕ) → visit-lts.Need-add-t18 (
-  put-reads.Asked,
-  put-reads.Learnt,
-  visit-edges-below t,
-  visit-edges.Post,
-) (visit-at t) visit.Post
-visit-add-t18 t c = search visit-next
+visit-visit-edges-requires t c κs = (search visit-falls, search opens)
 
 visit-same-length : (t : ℕ) → visit-lts.Need-same-length (
   put-reads.Asked,
@@ -263,6 +230,22 @@ visit-returns : (t : ℕ) → visit-lts.Need-returns (
 ) (visit-at t) visit.Post
 visit-returns t c = search visit-looped
 
+visit-put-requires-2 : (t : ℕ) → visit-lts.Need-put-requires-2 (
+  put-reads.Asked,
+  put-reads.Learnt,
+  visit-edges-below t,
+  visit-edges.Post,
+) (visit-at t) visit.Post
+visit-put-requires-2 t c κs = search needs
+
+visit-add-result : (t : ℕ) → visit-lts.Need-add-result (
+  put-reads.Asked,
+  put-reads.Learnt,
+  visit-edges-below t,
+  visit-edges.Post,
+) (visit-at t) visit.Post
+visit-add-result t c = search visit-next
+
 visit-same-length-2 : (t : ℕ) → visit-lts.Need-same-length-2 (
   put-reads.Asked,
   put-reads.Learnt,
@@ -279,19 +262,7 @@ visit-returns-2 : (t : ℕ) → visit-lts.Need-returns-2 (
 ) (visit-at t) visit.Post
 visit-returns-2 t c = search visit-done
 
-visit-edge-record-at-requires : (t : ℕ) → visit-edge-lts.Need-record-at-requires (
-  record-at-reads.Asked,
-  record-at-reads.Learnt,
-  edge-at-reads.Asked,
-  edge-at-reads.Learnt,
-  meet-below t,
-  meet.Post,
-) (visit-edge-at t) visit-edge.Post
-visit-edge-record-at-requires t c κs = search needs
-
 visit-edge-edge-at-requires : (t : ℕ) → visit-edge-lts.Need-edge-at-requires (
-  record-at-reads.Asked,
-  record-at-reads.Learnt,
   edge-at-reads.Asked,
   edge-at-reads.Learnt,
   meet-below t,
@@ -300,8 +271,6 @@ visit-edge-edge-at-requires : (t : ℕ) → visit-edge-lts.Need-edge-at-requires
 visit-edge-edge-at-requires t c κs = search needs
 
 visit-edge-enum-told : (t : ℕ) → visit-edge-lts.Need-enum-told (
-  record-at-reads.Asked,
-  record-at-reads.Learnt,
   edge-at-reads.Asked,
   edge-at-reads.Learnt,
   meet-below t,
@@ -310,8 +279,6 @@ visit-edge-enum-told : (t : ℕ) → visit-edge-lts.Need-enum-told (
 visit-edge-enum-told t c = search needs
 
 visit-edge-enum-known-x : (t : ℕ) → visit-edge-lts.Need-enum-known-x (
-  record-at-reads.Asked,
-  record-at-reads.Learnt,
   edge-at-reads.Asked,
   edge-at-reads.Learnt,
   meet-below t,
@@ -320,8 +287,6 @@ visit-edge-enum-known-x : (t : ℕ) → visit-edge-lts.Need-enum-known-x (
 visit-edge-enum-known-x t c = search needs
 
 visit-edge-meet-requires : (t : ℕ) → visit-edge-lts.Need-meet-requires (
-  record-at-reads.Asked,
-  record-at-reads.Learnt,
   edge-at-reads.Asked,
   edge-at-reads.Learnt,
   meet-below t,
@@ -330,8 +295,6 @@ visit-edge-meet-requires : (t : ℕ) → visit-edge-lts.Need-meet-requires (
 visit-edge-meet-requires t c κs = (omega arith, search edge-coming)
 
 visit-edge-returns : (t : ℕ) → visit-edge-lts.Need-returns (
-  record-at-reads.Asked,
-  record-at-reads.Learnt,
   edge-at-reads.Asked,
   edge-at-reads.Learnt,
   meet-below t,
@@ -340,8 +303,6 @@ visit-edge-returns : (t : ℕ) → visit-edge-lts.Need-returns (
 visit-edge-returns t c = search edge-nowhere
 
 visit-edge-same-length : (t : ℕ) → visit-edge-lts.Need-same-length (
-  record-at-reads.Asked,
-  record-at-reads.Learnt,
   edge-at-reads.Asked,
   edge-at-reads.Learnt,
   meet-below t,
@@ -350,8 +311,6 @@ visit-edge-same-length : (t : ℕ) → visit-edge-lts.Need-same-length (
 visit-edge-same-length t c = search needs
 
 visit-edge-returns-2 : (t : ℕ) → visit-edge-lts.Need-returns-2 (
-  record-at-reads.Asked,
-  record-at-reads.Learnt,
   edge-at-reads.Asked,
   edge-at-reads.Learnt,
   meet-below t,
@@ -359,83 +318,91 @@ visit-edge-returns-2 : (t : ℕ) → visit-edge-lts.Need-returns-2 (
 ) (visit-edge-at t) visit-edge.Post
 visit-edge-returns-2 t c = search edge-met
 
-visit-edges-returns : (t : ℕ) → visit-edges-lts.Need-returns (
+visit-edges-record-at-requires : (t : ℕ) → visit-edges-lts.Need-record-at-requires (
+  record-at-reads.Asked,
+  record-at-reads.Learnt,
   visit-edge-below t,
   visit-edge.Post,
-  visit-edges-below t,
-  visit-edges.Post,
 ) (visit-edges-at t) visit-edges.Post
-visit-edges-returns t c = search edges-none
+visit-edges-record-at-requires t c κs = search edges-inside
 
 visit-edges-visit-edge-requires : (t : ℕ) → visit-edges-lts.Need-visit-edge-requires (
+  record-at-reads.Asked,
+  record-at-reads.Learnt,
   visit-edge-below t,
   visit-edge.Post,
-  visit-edges-below t,
-  visit-edges.Post,
 ) (visit-edges-at t) visit-edges.Post
-visit-edges-visit-edge-requires t c κs = (omega arith, search needs)
-
-visit-edges-enum-told : (t : ℕ) → visit-edges-lts.Need-enum-told (
-  visit-edge-below t,
-  visit-edge.Post,
-  visit-edges-below t,
-  visit-edges.Post,
-) (visit-edges-at t) visit-edges.Post
-visit-edges-enum-told t c = search needs
-
-visit-edges-enum-known-c : (t : ℕ) → visit-edges-lts.Need-enum-known-c (
-  visit-edge-below t,
-  visit-edge.Post,
-  visit-edges-below t,
-  visit-edges.Post,
-) (visit-edges-at t) visit-edges.Post
-visit-edges-enum-known-c t c = search needs
-
-visit-edges-sub-visit-edges : (t : ℕ) → visit-edges-lts.Need-sub-visit-edges (
-  visit-edge-below t,
-  visit-edge.Post,
-  visit-edges-below t,
-  visit-edges.Post,
-) (visit-edges-at t) visit-edges.Post
-visit-edges-sub-visit-edges t c = search needs
-
-visit-edges-visit-edges-requires : (t : ℕ) → visit-edges-lts.Need-visit-edges-requires (
-  visit-edge-below t,
-  visit-edge.Post,
-  visit-edges-below t,
-  visit-edges.Post,
-) (visit-edges-at t) visit-edges.Post
-visit-edges-visit-edges-requires t c κs = (search edges-falls, search edges-ready)
+visit-edges-visit-edge-requires t c κs = (omega arith, (search needs, search needs))
 
 visit-edges-same-length : (t : ℕ) → visit-edges-lts.Need-same-length (
+  record-at-reads.Asked,
+  record-at-reads.Learnt,
   visit-edge-below t,
   visit-edge.Post,
-  visit-edges-below t,
-  visit-edges.Post,
 ) (visit-edges-at t) visit-edges.Post
 visit-edges-same-length t c = search needs
 
-visit-edges-returns-2 : (t : ℕ) → visit-edges-lts.Need-returns-2 (
+visit-edges-returns : (t : ℕ) → visit-edges-lts.Need-returns (
+  record-at-reads.Asked,
+  record-at-reads.Learnt,
   visit-edge-below t,
   visit-edge.Post,
-  visit-edges-below t,
-  visit-edges.Post,
 ) (visit-edges-at t) visit-edges.Post
-visit-edges-returns-2 t c = search edges-looped
+visit-edges-returns t c = search edges-looped
+
+visit-edges-visit-edge-requires-2 : (t : ℕ) → visit-edges-lts.Need-visit-edge-requires-2 (
+  record-at-reads.Asked,
+  record-at-reads.Learnt,
+  visit-edge-below t,
+  visit-edge.Post,
+) (visit-edges-at t) visit-edges.Post
+visit-edges-visit-edge-requires-2 t c κs = (search edges-falls, (search edges-ready, search needs))
 
 visit-edges-same-length-2 : (t : ℕ) → visit-edges-lts.Need-same-length-2 (
+  record-at-reads.Asked,
+  record-at-reads.Learnt,
   visit-edge-below t,
   visit-edge.Post,
-  visit-edges-below t,
-  visit-edges.Post,
 ) (visit-edges-at t) visit-edges.Post
 visit-edges-same-length-2 t c = search needs
 
-visit-edges-returns-3 : (t : ℕ) → visit-edges-lts.Need-returns-3 (
+visit-edges-returns-2 : (t : ℕ) → visit-edges-lts.Need-returns-2 (
+  record-at-reads.Asked,
+  record-at-reads.Learnt,
   visit-edge-below t,
   visit-edge.Post,
-  visit-edges-below t,
-  visit-edges.Post,
+) (visit-edges-at t) visit-edges.Post
+visit-edges-returns-2 t c = search more-looped
+
+visit-edges-visit-edge-requires-3 : (t : ℕ) → visit-edges-lts.Need-visit-edge-requires-3 (
+  record-at-reads.Asked,
+  record-at-reads.Learnt,
+  visit-edge-below t,
+  visit-edge.Post,
+) (visit-edges-at t) visit-edges.Post
+visit-edges-visit-edge-requires-3 t c κs =
+    let first = c .before .before .before .before .before .before .before .before .before .visit-edge .ensures in
+    let second = c .before .before .before .before .visit-edge2 .ensures in
+    let on = c .before .before .before .before .before .before .if1 .left in
+    let further = c .before .if2 .left in
+    let given = c .before .before .before .before .before .before .before .before .before .before .before .before .before .before .pre in (
+      more-falls _ _ _ _ _ _ _ _ _ first on _ _ _ second further t (given .0),
+      (more-ready _ _ _ _ _ _ _ _ _ first on _ _ _ second further (given .1) (search needs), search needs),
+    )
+
+visit-edges-same-length-3 : (t : ℕ) → visit-edges-lts.Need-same-length-3 (
+  record-at-reads.Asked,
+  record-at-reads.Learnt,
+  visit-edge-below t,
+  visit-edge.Post,
+) (visit-edges-at t) visit-edges.Post
+visit-edges-same-length-3 t c = search needs
+
+visit-edges-returns-3 : (t : ℕ) → visit-edges-lts.Need-returns-3 (
+  record-at-reads.Asked,
+  record-at-reads.Learnt,
+  visit-edge-below t,
+  visit-edge.Post,
 ) (visit-edges-at t) visit-edges.Post
 visit-edges-returns-3 t c = search edges-more
 
@@ -474,25 +441,16 @@ pub +meet+visit+visit-edge+visit-edges-spec : {M : Type 1} → statement M
     (visit-cast-i t)
     (visit-put-requires t)
     (visit-visit-edges-requires t)
-    (visit-enum-told t)
-    (visit-enum-known-c t)
-    (visit-put-requires-2 t)
-    (visit-add-t18 t)
     (visit-same-length t)
     (visit-returns t)
+    (visit-put-requires-2 t)
+    (visit-add-result t)
     (visit-same-length-2 t)
     (visit-returns-2 t))
-    (λ t. visit-edge-lts.spec (
-      record-at-reads.Asked,
-      record-at-reads.Learnt,
-      edge-at-reads.Asked,
-      edge-at-reads.Learnt,
-      meet-below t,
-      meet.Post,
-    )
+    (λ t. visit-edge-lts.spec
+    (edge-at-reads.Asked, edge-at-reads.Learnt, meet-below t, meet.Post)
     (visit-edge-at t)
     visit-edge.Post
-    (visit-edge-record-at-requires t)
     (visit-edge-edge-at-requires t)
     (visit-edge-enum-told t)
     (visit-edge-enum-known-x t)
@@ -501,16 +459,16 @@ pub +meet+visit+visit-edge+visit-edges-spec : {M : Type 1} → statement M
     (visit-edge-same-length t)
     (visit-edge-returns-2 t))
     λ t. visit-edges-lts.spec
-    (visit-edge-below t, visit-edge.Post, visit-edges-below t, visit-edges.Post)
+    (record-at-reads.Asked, record-at-reads.Learnt, visit-edge-below t, visit-edge.Post)
     (visit-edges-at t)
     visit-edges.Post
-    (visit-edges-returns t)
+    (visit-edges-record-at-requires t)
     (visit-edges-visit-edge-requires t)
-    (visit-edges-enum-told t)
-    (visit-edges-enum-known-c t)
-    (visit-edges-sub-visit-edges t)
-    (visit-edges-visit-edges-requires t)
     (visit-edges-same-length t)
-    (visit-edges-returns-2 t)
+    (visit-edges-returns t)
+    (visit-edges-visit-edge-requires-2 t)
     (visit-edges-same-length-2 t)
+    (visit-edges-returns-2 t)
+    (visit-edges-visit-edge-requires-3 t)
+    (visit-edges-same-length-3 t)
     (visit-edges-returns-3 t)

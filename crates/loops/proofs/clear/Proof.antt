@@ -1,24 +1,26 @@
 -- `loops::clear` meets its contract. Assumes nothing.
 use Prim.Native.Nat.{_-_}
 use borrow.Author.Needs.{needs}
-use Rattle.loops.proofs.Search.{Clearing, clearing-none, clearing-more, clearing-all}
+use Rattle.loops.proofs.Search.{Clearing, clearing-none, clearing-inside, clearing-more, clearing-all}
 use Rattle.loops.proofs.clear.Statement.{statement}
 use Rattle.loops.proofs.clear.Tie as tie
+use Rattle.loops.proofs.clear.Reads as reads
+use Rattle.loops.proofs.clear.Lts as lts
 
 abbrev Inv-loop : tie.InvT-loop
-Inv-loop work₀ n i₀ work i = Clearing n work₀ work i
+Inv-loop work₀ n end i₀ work i = Clearing n work₀ work i
 
 abbrev μ-loop : tie.MeasureT-loop
-μ-loop work₀ n i₀ work i = n - i
+μ-loop work₀ n end i₀ work i = n - i
 
 loop-holds : tie.Need-loop-holds Inv-loop μ-loop
 loop-holds c = search clearing-none
 
-cast-put : tie.Need-cast-put Inv-loop μ-loop
-cast-put c = search needs
+mul-work : tie.Need-mul-work Inv-loop μ-loop
+mul-work c = search needs
 
-put-requires : tie.Need-put-requires Inv-loop μ-loop
-put-requires c κs = search needs
+slice-write-work : tie.Need-slice-write-work Inv-loop μ-loop
+slice-write-work c = search clearing-inside
 
 add-i : tie.Need-add-i Inv-loop μ-loop
 add-i c = search needs
@@ -42,8 +44,8 @@ clear-spec =
     Inv-loop
     μ-loop
     loop-holds
-    cast-put
-    put-requires
+    mul-work
+    slice-write-work
     add-i
     loop-less
     loop-again

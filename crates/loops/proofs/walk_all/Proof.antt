@@ -5,6 +5,10 @@ use Rattle.loops.proofs.Search.{Going, going-begins, going-coming, goin
 use borrow.Author.Needs.{needs}
 use Rattle.loops.proofs.walk_all.Statement.{statement}
 use Rattle.loops.proofs.walk_all.Tie as tie
+use Rattle.loops.proofs.walk_all.Reads as reads
+use Rattle.loops.proofs.walk_all.Lts as lts
+use Rattle.loops.proofs.clear.Reads as clear-reads
+use Rattle.loops.proofs.meet.Reads as meet-reads
 
 abbrev Inv-loop : tie.InvT-loop
 Inv-loop work₀ ticket n clock₀ i₀ work clock i = Going (recordsOf ticket) n work₀ work clock i
@@ -21,17 +25,11 @@ loop-holds c = search going-begins
 meet-requires : tie.Need-meet-requires Inv-loop μ-loop
 meet-requires c κs = search going-coming
 
-enum-told : tie.Need-enum-told Inv-loop μ-loop
-enum-told c = search needs
-
 same-length : tie.Need-same-length Inv-loop μ-loop
 same-length c = search needs
 
 returns : tie.Need-returns Inv-loop μ-loop
 returns c = search going-stuck
-
-enum-known-c : tie.Need-enum-known-c Inv-loop μ-loop
-enum-known-c c = search needs
 
 add-i : tie.Need-add-i Inv-loop μ-loop
 add-i c = search needs
@@ -57,10 +55,8 @@ walk-all-spec =
     clear-requires
     loop-holds
     meet-requires
-    enum-told
     same-length
     returns
-    enum-known-c
     add-i
     loop-less
     loop-again

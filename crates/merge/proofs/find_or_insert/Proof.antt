@@ -1,6 +1,6 @@
 -- `merge::find_or_insert` meets its contract. Assumes nothing.
-use native.Mathlib.Omega.{arith}
 use Rattle.merge.proofs.Numbering.{key-is-cell, numbers-found, numbers-new}
+use native.Mathlib.Omega.{arith}
 use borrow.Author.Needs.{needs}
 use Rattle.merge.proofs.find_or_insert.Statement.{statement}
 use Rattle.merge.proofs.find_or_insert.Tie as tie
@@ -8,58 +8,54 @@ use Rattle.merge.proofs.find_or_insert.Reads as reads
 use Rattle.merge.proofs.find_or_insert.Lts as lts
 use Rattle.design.proofs.queue.replace_net.Reads as replace-net-reads
 use Rattle.merge.proofs.find.Reads as find-reads
-use Rattle.netlist.proofs.put_record.Reads as put-record-reads
+use Rattle.merge.proofs.insert.Reads as insert-reads
 use Rattle.netlist.proofs.record_in.Reads as record-in-reads
 
--- src/lib.rt:119:45
+-- src/lib.rt:210:45
 add-t9 : tie.Need-add-t9
 add-t9 c = search needs
 
--- src/lib.rt:119:9
+-- src/lib.rt:210:9
 record-in-requires : tie.Need-record-in-requires
 record-in-requires c κs = search needs
 
--- src/lib.rt:120:11
+-- src/lib.rt:211:11
 find-requires : tie.Need-find-requires
-find-requires c κs = (omega arith, (search needs, search key-is-cell))
+find-requires c κs = (search needs, (omega arith, (search needs, (search needs, search key-is-cell))))
 
--- src/lib.rt:121:19
+-- src/lib.rt:212:19
 enum-known-x : tie.Need-enum-known-x
 enum-known-x c = search needs
 
--- src/lib.rt:122:13
+-- src/lib.rt:213:13
 replace-net-requires : tie.Need-replace-net-requires
 replace-net-requires c κs = search needs
 
--- src/lib.rt:126:33
+-- src/lib.rt:217:20
 enum-told : tie.Need-enum-told
 enum-told c = search needs
 
--- src/lib.rt:126:44
-add-t21 : tie.Need-add-t21
-add-t21 c = search needs
+-- src/lib.rt:217:13
+insert-requires : tie.Need-insert-requires
+insert-requires c κs = search needs
 
--- src/lib.rt:126:13
-put-record-requires : tie.Need-put-record-requires
-put-record-requires c κs = search needs
-
--- src/lib.rt:127:13
+-- src/lib.rt:218:13
 add-result : tie.Need-add-result
 add-result c = search needs
 
--- src/lib.rt:112:1
+-- src/lib.rt:203:1
 same-length : tie.Need-same-length
 same-length c = search needs
 
--- src/lib.rt:112:1
+-- src/lib.rt:203:1
 returns : tie.Need-returns
 returns c = search numbers-found
 
--- src/lib.rt:112:1
+-- src/lib.rt:203:1
 same-length-2 : tie.Need-same-length-2
 same-length-2 c = search needs
 
--- src/lib.rt:112:1
+-- src/lib.rt:203:1
 returns-2 : tie.Need-returns-2
 returns-2 c = search numbers-new
 
@@ -73,8 +69,7 @@ find-or-insert-spec =
     enum-known-x
     replace-net-requires
     enum-told
-    add-t21
-    put-record-requires
+    insert-requires
     add-result
     same-length
     returns

@@ -5,45 +5,45 @@ use Rattle.merge.proofs.put_key.Statement.{statement}
 use Rattle.merge.proofs.put_key.Tie as tie
 use Rattle.merge.proofs.put_key.Reads as reads
 use Rattle.merge.proofs.put_key.Lts as lts
-use Rattle.cell.proofs.cell_record.Reads as cell-record-reads
-use Rattle.design.proofs.visit.visit_mut.Reads as visit-mut-reads
-use Rattle.merge.proofs.key_of.Reads as key-of-reads
-use Rattle.netlist.proofs.cell_in.Reads as cell-in-reads
+use Rattle.design.proofs.queue.replaced_record.Reads as replaced-record-reads
+use Rattle.design.proofs.visit.plain.Reads as plain-reads
+use Rattle.merge.proofs.key_record.Reads as key-record-reads
 use Rattle.netlist.proofs.put_record.Reads as put-record-reads
+use Rattle.netlist.proofs.record_in.Reads as record-in-reads
 
--- src/lib.rt:48:67
-cell-in-requires : tie.Need-cell-in-requires
-cell-in-requires c κs = search needs
+-- src/lib.rt:69:36
+record-in-requires : tie.Need-record-in-requires
+record-in-requires c κs = search needs
 
--- src/lib.rt:48:9
-visit-mut-requires : tie.Need-visit-mut-requires
-visit-mut-requires c κs = search needs
+-- src/lib.rt:69:9
+plain-requires : tie.Need-plain-requires
+plain-requires c κs = search needs
 
--- src/lib.rt:49:33
-cast-cell-record : tie.Need-cast-cell-record
-cast-cell-record c = search needs
+-- src/lib.rt:70:26
+cast-key-record : tie.Need-cast-key-record
+cast-key-record c = search needs
 
--- src/lib.rt:49:45
-key-of-requires : tie.Need-key-of-requires
-key-of-requires c κs = search needs
+-- src/lib.rt:70:38
+replaced-record-requires : tie.Need-replaced-record-requires
+replaced-record-requires c κs = search needs
 
--- src/lib.rt:49:9
-cell-record-requires : tie.Need-cell-record-requires
-cell-record-requires c κs = search needs
+-- src/lib.rt:70:9
+key-record-requires : tie.Need-key-record-requires
+key-record-requires c κs = search needs
 
--- src/lib.rt:50:36
-add-t16 : tie.Need-add-t16
-add-t16 c = search needs
+-- src/lib.rt:71:36
+add-t15 : tie.Need-add-t15
+add-t15 c = search needs
 
--- src/lib.rt:50:5
+-- src/lib.rt:71:5
 put-record-requires : tie.Need-put-record-requires
 put-record-requires c κs = search needs
 
--- src/lib.rt:43:1
+-- src/lib.rt:64:1
 same-length : tie.Need-same-length
 same-length c = search needs
 
--- src/lib.rt:43:1
+-- src/lib.rt:64:1
 returns : tie.Need-returns
 returns c = search key-put
 
@@ -51,12 +51,12 @@ pub put-key-spec : {M : Type 1} → statement M
 put-key-spec =
     tie.close
     (tie.spec
-    cell-in-requires
-    visit-mut-requires
-    cast-cell-record
-    key-of-requires
-    cell-record-requires
-    add-t16
+    record-in-requires
+    plain-requires
+    cast-key-record
+    replaced-record-requires
+    key-record-requires
+    add-t15
     put-record-requires
     same-length
     returns)

@@ -21,7 +21,7 @@ loop-holds c = search loading-none
 
 -- src/lib.rt:56:35
 record-at-requires : tie.Need-record-at-requires Inv-loop μ-loop
-record-at-requires c κs = search needs
+record-at-requires c κs = omega arith
 
 -- src/lib.rt:56:9
 put-record-requires : tie.Need-put-record-requires Inv-loop μ-loop

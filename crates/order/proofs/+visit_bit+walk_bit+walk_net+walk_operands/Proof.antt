@@ -22,10 +22,9 @@ use Rattle.order.proofs.walk_operands.Reads as walk-operands
 use Rattle.order.proofs.walk_operands.Kinds as walk-operands-kinds
 use Rattle.order.proofs.+visit_bit+walk_bit+walk_net+walk_operands.Lts-walk_operands as walk-operands-lts
 use Rattle.cell.proofs.put.Reads as put-reads
-use Rattle.netlist.proofs.cell_in.Reads as cell-in-reads
 use Rattle.order.proofs.is_input.Reads as is-input-reads
 use Rattle.order.proofs.is_visited.Reads as is-visited-reads
-use Rattle.order.proofs.operands_of.Reads as operands-of-reads
+use Rattle.order.proofs.operands_at.Reads as operands-at-reads
 use Rattle.value.proofs.Net.as_cell_index.Reads as as-cell-index-reads
 use Rattle.order.proofs.+visit_bit+walk_bit+walk_net+walk_operands.{statement}
 use Rattle.order.proofs.+visit_bit+walk_bit+walk_net+walk_operands.Tie.{close}
@@ -75,35 +74,21 @@ walk-operands-below t =
     (falls 1 walk-operands-kinds.ps _<_ μ-walk-operands t)
     walk-operands.Pre
 
-visit-bit-cell-in-requires : (t : ℕ) → visit-bit-lts.Need-cell-in-requires (
-  cell-in-reads.Asked,
-  cell-in-reads.Learnt,
-  operands-of-reads.Asked,
-  operands-of-reads.Learnt,
+-- src/lib.rt:98:9
+visit-bit-operands-at-requires : (t : ℕ) → visit-bit-lts.Need-operands-at-requires (
+  operands-at-reads.Asked,
+  operands-at-reads.Learnt,
   put-reads.Asked,
   put-reads.Learnt,
   walk-operands-below t,
   walk-operands.Post,
 ) (visit-bit-at t) visit-bit.Post
-visit-bit-cell-in-requires t c κs = search needs
+visit-bit-operands-at-requires t c κs = search needs
 
-visit-bit-operands-of-requires : (t : ℕ) → visit-bit-lts.Need-operands-of-requires (
-  cell-in-reads.Asked,
-  cell-in-reads.Learnt,
-  operands-of-reads.Asked,
-  operands-of-reads.Learnt,
-  put-reads.Asked,
-  put-reads.Learnt,
-  walk-operands-below t,
-  walk-operands.Post,
-) (visit-bit-at t) visit-bit.Post
-visit-bit-operands-of-requires t c κs = search needs
-
+-- src/lib.rt:99:32
 visit-bit-cast-put : (t : ℕ) → visit-bit-lts.Need-cast-put (
-  cell-in-reads.Asked,
-  cell-in-reads.Learnt,
-  operands-of-reads.Asked,
-  operands-of-reads.Learnt,
+  operands-at-reads.Asked,
+  operands-at-reads.Learnt,
   put-reads.Asked,
   put-reads.Learnt,
   walk-operands-below t,
@@ -111,11 +96,10 @@ visit-bit-cast-put : (t : ℕ) → visit-bit-lts.Need-cast-put (
 ) (visit-bit-at t) visit-bit.Post
 visit-bit-cast-put t c = search needs
 
+-- src/lib.rt:99:21
 visit-bit-add-put : (t : ℕ) → visit-bit-lts.Need-add-put (
-  cell-in-reads.Asked,
-  cell-in-reads.Learnt,
-  operands-of-reads.Asked,
-  operands-of-reads.Learnt,
+  operands-at-reads.Asked,
+  operands-at-reads.Learnt,
   put-reads.Asked,
   put-reads.Learnt,
   walk-operands-below t,
@@ -123,11 +107,10 @@ visit-bit-add-put : (t : ℕ) → visit-bit-lts.Need-add-put (
 ) (visit-bit-at t) visit-bit.Post
 visit-bit-add-put t c = search needs
 
+-- src/lib.rt:99:5
 visit-bit-put-requires : (t : ℕ) → visit-bit-lts.Need-put-requires (
-  cell-in-reads.Asked,
-  cell-in-reads.Learnt,
-  operands-of-reads.Asked,
-  operands-of-reads.Learnt,
+  operands-at-reads.Asked,
+  operands-at-reads.Learnt,
   put-reads.Asked,
   put-reads.Learnt,
   walk-operands-below t,
@@ -135,11 +118,10 @@ visit-bit-put-requires : (t : ℕ) → visit-bit-lts.Need-put-requires (
 ) (visit-bit-at t) visit-bit.Post
 visit-bit-put-requires t c κs = search needs
 
+-- src/lib.rt:100:9
 visit-bit-walk-operands-requires : (t : ℕ) → visit-bit-lts.Need-walk-operands-requires (
-  cell-in-reads.Asked,
-  cell-in-reads.Learnt,
-  operands-of-reads.Asked,
-  operands-of-reads.Learnt,
+  operands-at-reads.Asked,
+  operands-at-reads.Learnt,
   put-reads.Asked,
   put-reads.Learnt,
   walk-operands-below t,
@@ -147,11 +129,10 @@ visit-bit-walk-operands-requires : (t : ℕ) → visit-bit-lts.Need-walk-operand
 ) (visit-bit-at t) visit-bit.Post
 visit-bit-walk-operands-requires t c κs = (search (marked-falls, lit≤, tt), search marked-ready)
 
+-- src/lib.rt:101:30
 visit-bit-cast-put-2 : (t : ℕ) → visit-bit-lts.Need-cast-put-2 (
-  cell-in-reads.Asked,
-  cell-in-reads.Learnt,
-  operands-of-reads.Asked,
-  operands-of-reads.Learnt,
+  operands-at-reads.Asked,
+  operands-at-reads.Learnt,
   put-reads.Asked,
   put-reads.Learnt,
   walk-operands-below t,
@@ -159,11 +140,10 @@ visit-bit-cast-put-2 : (t : ℕ) → visit-bit-lts.Need-cast-put-2 (
 ) (visit-bit-at t) visit-bit.Post
 visit-bit-cast-put-2 t c = search needs
 
+-- src/lib.rt:101:21
 visit-bit-add-put-2 : (t : ℕ) → visit-bit-lts.Need-add-put-2 (
-  cell-in-reads.Asked,
-  cell-in-reads.Learnt,
-  operands-of-reads.Asked,
-  operands-of-reads.Learnt,
+  operands-at-reads.Asked,
+  operands-at-reads.Learnt,
   put-reads.Asked,
   put-reads.Learnt,
   walk-operands-below t,
@@ -171,11 +151,10 @@ visit-bit-add-put-2 : (t : ℕ) → visit-bit-lts.Need-add-put-2 (
 ) (visit-bit-at t) visit-bit.Post
 visit-bit-add-put-2 t c = search needs
 
+-- src/lib.rt:101:5
 visit-bit-put-requires-2 : (t : ℕ) → visit-bit-lts.Need-put-requires-2 (
-  cell-in-reads.Asked,
-  cell-in-reads.Learnt,
-  operands-of-reads.Asked,
-  operands-of-reads.Learnt,
+  operands-at-reads.Asked,
+  operands-at-reads.Learnt,
   put-reads.Asked,
   put-reads.Learnt,
   walk-operands-below t,
@@ -183,11 +162,10 @@ visit-bit-put-requires-2 : (t : ℕ) → visit-bit-lts.Need-put-requires-2 (
 ) (visit-bit-at t) visit-bit.Post
 visit-bit-put-requires-2 t c κs = search needs
 
+-- src/lib.rt:102:5
 visit-bit-add-result : (t : ℕ) → visit-bit-lts.Need-add-result (
-  cell-in-reads.Asked,
-  cell-in-reads.Learnt,
-  operands-of-reads.Asked,
-  operands-of-reads.Learnt,
+  operands-at-reads.Asked,
+  operands-at-reads.Learnt,
   put-reads.Asked,
   put-reads.Learnt,
   walk-operands-below t,
@@ -195,11 +173,10 @@ visit-bit-add-result : (t : ℕ) → visit-bit-lts.Need-add-result (
 ) (visit-bit-at t) visit-bit.Post
 visit-bit-add-result t c = search bit-next
 
+-- src/lib.rt:93:1
 visit-bit-same-length : (t : ℕ) → visit-bit-lts.Need-same-length (
-  cell-in-reads.Asked,
-  cell-in-reads.Learnt,
-  operands-of-reads.Asked,
-  operands-of-reads.Learnt,
+  operands-at-reads.Asked,
+  operands-at-reads.Learnt,
   put-reads.Asked,
   put-reads.Learnt,
   walk-operands-below t,
@@ -207,11 +184,10 @@ visit-bit-same-length : (t : ℕ) → visit-bit-lts.Need-same-length (
 ) (visit-bit-at t) visit-bit.Post
 visit-bit-same-length t c = search needs
 
+-- src/lib.rt:93:1
 visit-bit-returns : (t : ℕ) → visit-bit-lts.Need-returns (
-  cell-in-reads.Asked,
-  cell-in-reads.Learnt,
-  operands-of-reads.Asked,
-  operands-of-reads.Learnt,
+  operands-at-reads.Asked,
+  operands-at-reads.Learnt,
   put-reads.Asked,
   put-reads.Learnt,
   walk-operands-below t,
@@ -219,6 +195,7 @@ visit-bit-returns : (t : ℕ) → visit-bit-lts.Need-returns (
 ) (visit-bit-at t) visit-bit.Post
 visit-bit-returns t c = search bit-done
 
+-- src/lib.rt:86:8
 walk-bit-is-visited-requires : (t : ℕ) → walk-bit-lts.Need-is-visited-requires (
   is-visited-reads.Asked,
   is-visited-reads.Learnt,
@@ -227,6 +204,7 @@ walk-bit-is-visited-requires : (t : ℕ) → walk-bit-lts.Need-is-visited-requir
 ) (walk-bit-at t) walk-bit.Post
 walk-bit-is-visited-requires t c κs = search needs
 
+-- src/lib.rt:87:9
 walk-bit-same-length : (t : ℕ) → walk-bit-lts.Need-same-length (
   is-visited-reads.Asked,
   is-visited-reads.Learnt,
@@ -235,6 +213,7 @@ walk-bit-same-length : (t : ℕ) → walk-bit-lts.Need-same-length (
 ) (walk-bit-at t) walk-bit.Post
 walk-bit-same-length t c = search needs
 
+-- src/lib.rt:87:9
 walk-bit-returns : (t : ℕ) → walk-bit-lts.Need-returns (
   is-visited-reads.Asked,
   is-visited-reads.Learnt,
@@ -243,6 +222,7 @@ walk-bit-returns : (t : ℕ) → walk-bit-lts.Need-returns (
 ) (walk-bit-at t) walk-bit.Post
 walk-bit-returns t c = search walks-visited
 
+-- src/lib.rt:89:5
 walk-bit-visit-bit-requires : (t : ℕ) → walk-bit-lts.Need-visit-bit-requires (
   is-visited-reads.Asked,
   is-visited-reads.Learnt,
@@ -251,6 +231,7 @@ walk-bit-visit-bit-requires : (t : ℕ) → walk-bit-lts.Need-visit-bit-requires
 ) (walk-bit-at t) walk-bit.Post
 walk-bit-visit-bit-requires t c κs = (omega arith, (search needs, search is-new))
 
+-- src/lib.rt:82:1
 walk-bit-same-length-2 : (t : ℕ) → walk-bit-lts.Need-same-length-2 (
   is-visited-reads.Asked,
   is-visited-reads.Learnt,
@@ -259,6 +240,7 @@ walk-bit-same-length-2 : (t : ℕ) → walk-bit-lts.Need-same-length-2 (
 ) (walk-bit-at t) walk-bit.Post
 walk-bit-same-length-2 t c = search needs
 
+-- src/lib.rt:82:1
 walk-bit-returns-2 : (t : ℕ) → walk-bit-lts.Need-returns-2 (
   is-visited-reads.Asked,
   is-visited-reads.Learnt,
@@ -267,6 +249,7 @@ walk-bit-returns-2 : (t : ℕ) → walk-bit-lts.Need-returns-2 (
 ) (walk-bit-at t) walk-bit.Post
 walk-bit-returns-2 t c = search needs
 
+-- src/lib.rt:120:11
 walk-net-as-cell-index-requires : (t : ℕ) → walk-net-lts.Need-as-cell-index-requires (
   as-cell-index-reads.Asked,
   as-cell-index-reads.Learnt,
@@ -277,6 +260,7 @@ walk-net-as-cell-index-requires : (t : ℕ) → walk-net-lts.Need-as-cell-index-
 ) (walk-net-at t) walk-net.Post
 walk-net-as-cell-index-requires t c κs = search needs
 
+-- src/lib.rt:121:29
 walk-net-enum-told : (t : ℕ) → walk-net-lts.Need-enum-told (
   as-cell-index-reads.Asked,
   as-cell-index-reads.Learnt,
@@ -287,6 +271,7 @@ walk-net-enum-told : (t : ℕ) → walk-net-lts.Need-enum-told (
 ) (walk-net-at t) walk-net.Post
 walk-net-enum-told t c = search needs
 
+-- src/lib.rt:122:22
 walk-net-enum-known-s : (t : ℕ) → walk-net-lts.Need-enum-known-s (
   as-cell-index-reads.Asked,
   as-cell-index-reads.Learnt,
@@ -297,6 +282,7 @@ walk-net-enum-known-s : (t : ℕ) → walk-net-lts.Need-enum-known-s (
 ) (walk-net-at t) walk-net.Post
 walk-net-enum-known-s t c = search needs
 
+-- src/lib.rt:123:16
 walk-net-is-input-requires : (t : ℕ) → walk-net-lts.Need-is-input-requires (
   as-cell-index-reads.Asked,
   as-cell-index-reads.Learnt,
@@ -307,6 +293,7 @@ walk-net-is-input-requires : (t : ℕ) → walk-net-lts.Need-is-input-requires (
 ) (walk-net-at t) walk-net.Post
 walk-net-is-input-requires t c κs = search needs
 
+-- src/lib.rt:124:17
 walk-net-same-length : (t : ℕ) → walk-net-lts.Need-same-length (
   as-cell-index-reads.Asked,
   as-cell-index-reads.Learnt,
@@ -317,6 +304,7 @@ walk-net-same-length : (t : ℕ) → walk-net-lts.Need-same-length (
 ) (walk-net-at t) walk-net.Post
 walk-net-same-length t c = search needs
 
+-- src/lib.rt:124:17
 walk-net-returns : (t : ℕ) → walk-net-lts.Need-returns (
   as-cell-index-reads.Asked,
   as-cell-index-reads.Learnt,
@@ -327,6 +315,7 @@ walk-net-returns : (t : ℕ) → walk-net-lts.Need-returns (
 ) (walk-net-at t) walk-net.Post
 walk-net-returns t c = search net-input
 
+-- src/lib.rt:126:13
 walk-net-walk-bit-requires : (t : ℕ) → walk-net-lts.Need-walk-bit-requires (
   as-cell-index-reads.Asked,
   as-cell-index-reads.Learnt,
@@ -337,6 +326,7 @@ walk-net-walk-bit-requires : (t : ℕ) → walk-net-lts.Need-walk-bit-requires (
 ) (walk-net-at t) walk-net.Post
 walk-net-walk-bit-requires t c κs = (omega arith, search needs)
 
+-- src/lib.rt:116:1
 walk-net-returns-2 : (t : ℕ) → walk-net-lts.Need-returns-2 (
   as-cell-index-reads.Asked,
   as-cell-index-reads.Learnt,
@@ -347,6 +337,7 @@ walk-net-returns-2 : (t : ℕ) → walk-net-lts.Need-returns-2 (
 ) (walk-net-at t) walk-net.Post
 walk-net-returns-2 t c = search net-constant
 
+-- src/lib.rt:116:1
 walk-net-same-length-2 : (t : ℕ) → walk-net-lts.Need-same-length-2 (
   as-cell-index-reads.Asked,
   as-cell-index-reads.Learnt,
@@ -357,6 +348,7 @@ walk-net-same-length-2 : (t : ℕ) → walk-net-lts.Need-same-length-2 (
 ) (walk-net-at t) walk-net.Post
 walk-net-same-length-2 t c = search needs
 
+-- src/lib.rt:116:1
 walk-net-returns-3 : (t : ℕ) → walk-net-lts.Need-returns-3 (
   as-cell-index-reads.Asked,
   as-cell-index-reads.Learnt,
@@ -367,18 +359,21 @@ walk-net-returns-3 : (t : ℕ) → walk-net-lts.Need-returns-3 (
 ) (walk-net-at t) walk-net.Post
 walk-net-returns-3 t c = search net-bit
 
+-- src/lib.rt:110:9
 walk-operands-walk-net-requires : (t : ℕ) → walk-operands-lts.Need-walk-net-requires (
   walk-net-below t,
   walk-net.Post,
 ) (walk-operands-at t) walk-operands.Post
 walk-operands-walk-net-requires t c κs = (omega arith, search needs)
 
+-- src/lib.rt:111:9
 walk-operands-walk-net-requires-2 : (t : ℕ) → walk-operands-lts.Need-walk-net-requires-2 (
   walk-net-below t,
   walk-net.Post,
 ) (walk-operands-at t) walk-operands.Post
 walk-operands-walk-net-requires-2 t c κs = (search walks-falls, search walks-ready)
 
+-- src/lib.rt:112:5
 walk-operands-walk-net-requires-3 : (t : ℕ) → walk-operands-lts.Need-walk-net-requires-3 (
   walk-net-below t,
   walk-net.Post,
@@ -388,12 +383,14 @@ walk-operands-walk-net-requires-3 t c κs = (
   search (walks-ready-2, c .before .before .before .walk-net2 .ensures, c .before .before .before .before .before .before .before .walk-net .ensures, c .before .before .before .before .before .before .before .before .before .before .pre .1),
 )
 
+-- src/lib.rt:106:1
 walk-operands-same-length : (t : ℕ) → walk-operands-lts.Need-same-length (
   walk-net-below t,
   walk-net.Post,
 ) (walk-operands-at t) walk-operands.Post
 walk-operands-same-length t c = search needs
 
+-- src/lib.rt:106:1
 walk-operands-returns :
     (t : ℕ) →
     walk-operands-lts.Need-returns
@@ -405,10 +402,8 @@ walk-operands-returns t c = search operands-done
 pub +visit-bit+walk-bit+walk-net+walk-operands-spec : {M : Type 1} → statement M
 +visit-bit+walk-bit+walk-net+walk-operands-spec =
     close μ-visit-bit μ-walk-bit μ-walk-net μ-walk-operands (λ t. visit-bit-lts.spec (
-      cell-in-reads.Asked,
-      cell-in-reads.Learnt,
-      operands-of-reads.Asked,
-      operands-of-reads.Learnt,
+      operands-at-reads.Asked,
+      operands-at-reads.Learnt,
       put-reads.Asked,
       put-reads.Learnt,
       walk-operands-below t,
@@ -416,8 +411,7 @@ pub +visit-bit+walk-bit+walk-net+walk-operands-spec : {M : Type 1} → statement
     )
     (visit-bit-at t)
     visit-bit.Post
-    (visit-bit-cell-in-requires t)
-    (visit-bit-operands-of-requires t)
+    (visit-bit-operands-at-requires t)
     (visit-bit-cast-put t)
     (visit-bit-add-put t)
     (visit-bit-put-requires t)

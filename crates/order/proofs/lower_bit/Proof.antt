@@ -3,22 +3,28 @@ use Rattle.order.proofs.Lowest.{bit-lowers}
 use borrow.Author.Needs.{needs}
 use Rattle.order.proofs.lower_bit.Statement.{statement}
 use Rattle.order.proofs.lower_bit.Tie as tie
+use Rattle.order.proofs.lower_bit.Reads as reads
+use Rattle.order.proofs.lower_bit.Lts as lts
+use Rattle.order.proofs.lower_net.Reads as lower-net-reads
+use Rattle.order.proofs.operands_at.Reads as operands-at-reads
 
-cell-in-requires : tie.Need-cell-in-requires
-cell-in-requires c κs = search needs
+-- src/lib.rt:199:9
+operands-at-requires : tie.Need-operands-at-requires
+operands-at-requires c κs = search needs
 
-operands-of-requires : tie.Need-operands-of-requires
-operands-of-requires c κs = search needs
-
+-- src/lib.rt:200:9
 lower-net-requires : tie.Need-lower-net-requires
 lower-net-requires c κs = search needs
 
+-- src/lib.rt:201:9
 lower-net-requires-2 : tie.Need-lower-net-requires-2
 lower-net-requires-2 c κs = search needs
 
+-- src/lib.rt:202:5
 lower-net-requires-3 : tie.Need-lower-net-requires-3
 lower-net-requires-3 c κs = search needs
 
+-- src/lib.rt:195:1
 returns : tie.Need-returns
 returns c = search bit-lowers
 
@@ -26,8 +32,7 @@ pub lower-bit-spec : {M : Type 1} → statement M
 lower-bit-spec =
     tie.close
     (tie.spec
-    cell-in-requires
-    operands-of-requires
+    operands-at-requires
     lower-net-requires
     lower-net-requires-2
     lower-net-requires-3

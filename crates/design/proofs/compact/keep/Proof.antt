@@ -1,63 +1,27 @@
-use Rattle.design.proofs.Keeping.{Keeping, keeping-begins, keeping-more, keeping-ends}
-use Prim.Native.Nat.{_-_}
-use native.Mathlib.Omega.{arith}
+use Rattle.design.proofs.Noting.{keeps}
 use borrow.Author.Needs.{needs}
 use Rattle.design.proofs.compact.keep.Statement.{statement}
 use Rattle.design.proofs.compact.keep.Tie as tie
 use Rattle.design.proofs.compact.keep.Reads as reads
 use Rattle.design.proofs.compact.keep.Lts as lts
-use Rattle.design.proofs.compact.keep_from.Reads as keep-from-reads
-use Rattle.order.proofs.clear_marks.Reads as clear-marks-reads
+use Rattle.design.proofs.compact.mark_kept.Reads as mark-kept-reads
+use Rattle.design.proofs.compact.note_kept.Reads as note-kept-reads
 
-abbrev Inv-loop : tie.InvT-loop
-Inv-loop work₀ n count₀ s₀ work count s = Keeping n work₀ work count s
+-- src/compact.rt:110:5
+mark-kept-requires : tie.Need-mark-kept-requires
+mark-kept-requires c κs = search needs
 
-abbrev μ-loop : tie.MeasureT-loop
-μ-loop work₀ n count₀ s₀ work count s = n - s
+-- src/compact.rt:111:5
+note-kept-requires : tie.Need-note-kept-requires
+note-kept-requires c κs = search needs
 
--- src/compact.rt:61:5
-clear-marks-requires : tie.Need-clear-marks-requires Inv-loop μ-loop
-clear-marks-requires c κs = search needs
-
--- src/compact.rt:64:5
-loop-holds : tie.Need-loop-holds Inv-loop μ-loop
-loop-holds c = search keeping-begins
-
--- src/compact.rt:65:9
-keep-from-requires : tie.Need-keep-from-requires Inv-loop μ-loop
-keep-from-requires c κs = search needs
-
--- src/compact.rt:66:9
-add-s : tie.Need-add-s Inv-loop μ-loop
-add-s c = omega arith
-
--- src/compact.rt:64:5
-loop-less : tie.Need-loop-less Inv-loop μ-loop
-loop-less c = omega arith
-
--- src/compact.rt:64:5
-loop-again : tie.Need-loop-again Inv-loop μ-loop
-loop-again c = search keeping-more
-
--- src/compact.rt:56:1
-same-length : tie.Need-same-length Inv-loop μ-loop
+-- src/compact.rt:105:1
+same-length : tie.Need-same-length
 same-length c = search needs
 
--- src/compact.rt:56:1
-returns : tie.Need-returns Inv-loop μ-loop
-returns c = search keeping-ends
+-- src/compact.rt:105:1
+returns : tie.Need-returns
+returns c = search keeps
 
 pub keep-spec : {M : Type 1} → statement M
-keep-spec =
-    tie.close
-    (tie.spec
-    Inv-loop
-    μ-loop
-    clear-marks-requires
-    loop-holds
-    keep-from-requires
-    add-s
-    loop-less
-    loop-again
-    same-length
-    returns)
+keep-spec = tie.close (tie.spec mark-kept-requires note-kept-requires same-length returns)

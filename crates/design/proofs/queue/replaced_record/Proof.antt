@@ -1,0 +1,51 @@
+use Rattle.design.specs.Fields.{renamedFields}
+use borrow.Author.Needs.{needs}
+use Rattle.design.proofs.queue.replaced_record.Statement.{statement}
+use Rattle.design.proofs.queue.replaced_record.Tie as tie
+use Rattle.design.proofs.queue.replaced_record.Reads as reads
+use Rattle.design.proofs.queue.replaced_record.Lts as lts
+use Rattle.design.proofs.queue.map_net_new.Reads as map-net-new-reads
+use Rattle.design.proofs.visit.net_a.Reads as net-a-reads
+use Rattle.design.proofs.visit.net_b.Reads as net-b-reads
+use Rattle.design.proofs.visit.with_nets.Reads as with-nets-reads
+
+-- src/queue.rt:94:34
+net-a-requires : tie.Need-net-a-requires
+net-a-requires c κs = search needs
+
+-- src/queue.rt:94:9
+map-net-new-requires : tie.Need-map-net-new-requires
+map-net-new-requires c κs = search needs
+
+-- src/queue.rt:95:34
+net-b-requires : tie.Need-net-b-requires
+net-b-requires c κs = search needs
+
+-- src/queue.rt:95:9
+map-net-new-requires-2 : tie.Need-map-net-new-requires-2
+map-net-new-requires-2 c κs = search needs
+
+-- src/queue.rt:96:9
+map-net-new-requires-3 : tie.Need-map-net-new-requires-3
+map-net-new-requires-3 c κs = search needs
+
+-- src/queue.rt:97:5
+with-nets-requires : tie.Need-with-nets-requires
+with-nets-requires c κs = search needs
+
+-- src/queue.rt:91:1
+returns : tie.Need-returns
+unfolding renamedFields
+returns c = cc
+
+pub replaced-record-spec : {M : Type 1} → statement M
+replaced-record-spec =
+    tie.close
+    (tie.spec
+    net-a-requires
+    map-net-new-requires
+    net-b-requires
+    map-net-new-requires-2
+    map-net-new-requires-3
+    with-nets-requires
+    returns)

@@ -1,0 +1,68 @@
+use Rattle.design.specs.Fields.{plainFields}
+use Rattle.design.proofs.Visiting.{plain-is}
+use mathlib.Core.Path.{_∙_}
+use borrow.Author.Needs.{needs}
+use Rattle.design.proofs.visit.plain.Statement.{statement}
+use Rattle.design.proofs.visit.plain.Tie as tie
+use Rattle.design.proofs.visit.plain.Reads as reads
+use Rattle.design.proofs.visit.plain.Lts as lts
+use Rattle.design.proofs.visit.pick32.Reads as pick32-reads
+use Rattle.design.proofs.visit.pick8.Reads as pick8-reads
+use Rattle.logic.proofs.both.Reads as both-reads
+use Rattle.logic.proofs.either.Reads as either-reads
+
+-- src/visit.rt:25:9
+both-requires : tie.Need-both-requires
+both-requires c κs = search needs
+
+-- src/visit.rt:26:43
+both-requires-2 : tie.Need-both-requires-2
+both-requires-2 c κs = search needs
+
+-- src/visit.rt:26:9
+either-requires : tie.Need-either-requires
+either-requires c κs = search needs
+
+-- src/visit.rt:28:15
+pick8-requires : tie.Need-pick8-requires
+pick8-requires c κs = search needs
+
+-- src/visit.rt:29:46
+mul-pick8 : tie.Need-mul-pick8
+mul-pick8 c = search needs
+
+-- src/visit.rt:29:32
+add-pick8 : tie.Need-add-pick8
+add-pick8 c = search needs
+
+-- src/visit.rt:29:16
+pick8-requires-2 : tie.Need-pick8-requires-2
+pick8-requires-2 c κs = search needs
+
+-- src/visit.rt:32:12
+pick32-requires : tie.Need-pick32-requires
+pick32-requires c κs = search needs
+
+-- src/visit.rt:33:12
+pick32-requires-2 : tie.Need-pick32-requires-2
+pick32-requires-2 c κs = search needs
+
+-- src/visit.rt:22:1
+returns : tie.Need-returns
+unfolding plainFields
+returns c = rw (← plain-is) cc
+
+pub plain-spec : {M : Type 1} → statement M
+plain-spec =
+    tie.close
+    (tie.spec
+    both-requires
+    both-requires-2
+    either-requires
+    pick8-requires
+    mul-pick8
+    add-pick8
+    pick8-requires-2
+    pick32-requires
+    pick32-requires-2
+    returns)

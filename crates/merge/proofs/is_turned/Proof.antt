@@ -1,0 +1,45 @@
+-- `merge::is_turned` meets its contract. Assumes nothing.
+use Rattle.merge.specs.Words.{turned}
+use borrow.Author.Needs.{needs}
+use Rattle.merge.proofs.is_turned.Statement.{statement}
+use Rattle.merge.proofs.is_turned.Tie as tie
+use Rattle.merge.proofs.is_turned.Reads as reads
+use Rattle.merge.proofs.is_turned.Lts as lts
+use Rattle.logic.proofs.both.Reads as both-reads
+use Rattle.logic.proofs.either.Reads as either-reads
+
+-- src/lib.rt:31:34
+both-requires : tie.Need-both-requires
+both-requires c κs = search needs
+
+-- src/lib.rt:31:9
+either-requires : tie.Need-either-requires
+either-requires c κs = search needs
+
+-- src/lib.rt:32:9
+both-requires-2 : tie.Need-both-requires-2
+both-requires-2 c κs = search needs
+
+-- src/lib.rt:33:27
+either-requires-2 : tie.Need-either-requires-2
+either-requires-2 c κs = search needs
+
+-- src/lib.rt:33:5
+both-requires-3 : tie.Need-both-requires-3
+both-requires-3 c κs = search needs
+
+-- src/lib.rt:28:1
+returns : tie.Need-returns
+unfolding turned
+returns c = cc
+
+pub is-turned-spec : {M : Type 1} → statement M
+is-turned-spec =
+    tie.close
+    (tie.spec
+    both-requires
+    either-requires
+    both-requires-2
+    either-requires-2
+    both-requires-3
+    returns)

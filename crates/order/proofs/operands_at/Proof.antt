@@ -1,0 +1,47 @@
+-- `order::operands_at` meets its contract. Assumes nothing.
+use Rattle.order.specs.Descent.{fieldOperands}
+use Rattle.order.proofs.Fields.{field-operands}
+use borrow.Author.Needs.{needs}
+use Rattle.order.proofs.operands_at.Statement.{statement}
+use Rattle.order.proofs.operands_at.Tie as tie
+use Rattle.order.proofs.operands_at.Reads as reads
+use Rattle.order.proofs.operands_at.Lts as lts
+use Rattle.logic.proofs.both.Reads as both-reads
+use Rattle.netlist.proofs.record_in.Reads as record-in-reads
+use Rattle.order.proofs.pick.Reads as pick-reads
+
+-- src/lib.rt:36:9
+record-in-requires : tie.Need-record-in-requires
+record-in-requires c κs = search needs
+
+-- src/lib.rt:37:9
+both-requires : tie.Need-both-requires
+both-requires c κs = search needs
+
+-- src/lib.rt:39:13
+pick-requires : tie.Need-pick-requires
+pick-requires c κs = search needs
+
+-- src/lib.rt:40:13
+pick-requires-2 : tie.Need-pick-requires-2
+pick-requires-2 c κs = search needs
+
+-- src/lib.rt:41:13
+pick-requires-3 : tie.Need-pick-requires-3
+pick-requires-3 c κs = search needs
+
+-- src/lib.rt:33:1
+returns : tie.Need-returns
+unfolding fieldOperands
+returns c = rw (← field-operands) cc
+
+pub operands-at-spec : {M : Type 1} → statement M
+operands-at-spec =
+    tie.close
+    (tie.spec
+    record-in-requires
+    both-requires
+    pick-requires
+    pick-requires-2
+    pick-requires-3
+    returns)
