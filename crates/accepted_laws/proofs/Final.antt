@@ -24,7 +24,7 @@ use Rattle.aig_laws.proofs.Strings.{eqNet-true}
 use Rattle.rewrite_laws.proofs.Settled.{StandsFor, Inv}
 
 -- a net that a slot drives is that slot's
-driver-slot : (m : Net) (s : Slot) → driver m ≡ driven.Cell s → m ≡ netIn (s .0)
+pub driver-slot : (m : Net) (s : Slot) → driver m ≡ driven.Cell s → m ≡ netIn (s .0)
 unfolding driver
 driver-slot m s e = go (leb 2 (m .0)) (not (eqNet m UNDEF)) refl _ e
   where
@@ -36,7 +36,7 @@ driver-slot m s e = go (leb 2 (m .0)) (not (eqNet m UNDEF)) refl _ e
     go true false q t f = let z : _≡_ {A = ℕ} 0 1 = cc in absurd (omega arith)
     go false b q t f = let z : _≡_ {A = ℕ} 0 1 = cc in absurd (omega arith)
 
-eqNet-self : (m : Net) → eqNet m m ≡ true
+pub eqNet-self : (m : Net) → eqNet m m ≡ true
 unfolding eqNet
 eqNet-self m = eqb-self (m .0)
 

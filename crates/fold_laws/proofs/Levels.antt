@@ -124,7 +124,7 @@ module _ (cs : List Cell) (rank : ℕ → ℕ) (ranked : Ranked cs rank) where
       (visit (cellIn cs s)) (all-both _ _ (visit (cellIn cs s)) (ranked s l) (read s)))
 
   -- the rank falls along dependencies
-  falls : (s x : ℕ) → has x (bitDeps cs s) ≡ true → rank x < rank s
+  pub falls : (s x : ℕ) → has x (bitDeps cs s) ≡ true → rank x < rank s
   unfolding bitDeps Ranked
   falls s x h = go (decLt s (length cs))
     where

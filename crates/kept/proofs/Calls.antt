@@ -59,7 +59,7 @@ module _ (words : ℕ) (t : List ℕ) (pass : checkVerdict words t ≡ Pass) (by
   unfolding word32
   word-small i = omega (arith, bytes i, bytes (i + 1), bytes (i + 2), bytes (i + 3))
 
-  ticket-labelled : Labelled ticket
+  pub ticket-labelled : Labelled (decoded t)
   unfolding recordAt
   ticket-labelled s l =
       let r : cellRecord (getD (ticket .bits) s 0) (cellIn (ticket .cells) s) ≡ recordAt t s = ticket-record words t pass s l in
@@ -151,7 +151,7 @@ module _ (words : ℕ) (t reply : List ℕ) where
     unfolding checkVerdict
     checked-first e = passes-both (checkStages words t) (room reply bytes ∷ []) (is ∙ e) .0
 
-  written-count : (v : Verdict) (k n : ℕ) → writtenBy v k ≡ written.Accepted n → (v ≡ Pass) × (n ≡ k)
+  pub written-count : (v : Verdict) (k n : ℕ) → writtenBy v k ≡ written.Accepted n → (v ≡ Pass) × (n ≡ k)
   written-count Pass k n e = (refl, cc)
   written-count (Refused r) k n e = let z : _≡_ {A = ℕ} 0 1 = cc in absurd (omega arith)
 

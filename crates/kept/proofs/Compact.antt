@@ -70,7 +70,7 @@ module _ (d : Netlist) (rank : ℕ → ℕ) (sound : Sound d rank) where
       ap (λ (cs : List Cell). cellIn cs j) compact-cells
       ∙ getD-mapped (λ s. visitMut mapped (cellIn (d .cells) s)) (chosen kept total) j 0 (Input 0) l
 
-  bit-at : (j : ℕ) → j < count kept total → getD (compact d .bits) j 0 ≡ getD (d .bits) (old j) 0
+  pub bit-at : (j : ℕ) → j < count kept total → getD (compact d .bits) j 0 ≡ getD (d .bits) (old j) 0
   bit-at j l = ap (λ (bs : List ℕ). getD bs j 0) compact-bits ∙ getD-mapped (λ s. getD (d .bits) s 0) (chosen kept total) j 0 0 l
 
   -- the new net of an operand

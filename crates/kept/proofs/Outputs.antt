@@ -65,11 +65,11 @@ module _ (d : Netlist) (rank : ℕ → ℕ) (sound : Sound d rank) where
   unfolding hasEffects
   output-effects c e = or-right (isInput c) (isOutput c) e
 
-  outputs-kept : map from (outputSlots (compact d .cells)) ≡ outputSlots (d .cells)
+  pub outputs-kept : map from (outputSlots (compact d .cells)) ≡ outputSlots (d .cells)
   unfolding outputSlots
   outputs-kept = places-kept isOutput output-mapped output-effects
 
-  inputs-kept : map from (inputSlots (compact d .cells)) ≡ inputSlots (d .cells)
+  pub inputs-kept : map from (inputSlots (compact d .cells)) ≡ inputSlots (d .cells)
   unfolding inputSlots
   inputs-kept = places-kept isInput input-mapped input-effects
 

@@ -49,7 +49,7 @@ run-long (suc b) (x ∷ l) h = go (eqb x 0) refl (run-long b l (λ j k. h (suc j
     go true e r = absurd (h 0 (omega arith) (eqb-true x 0 e))
     go false e r = omega arith
 
-run-above : (j : ℕ) (l : List ℕ) → j < run l → getD l j 0 ≡ 0 → ⊥
+pub run-above : (j : ℕ) (l : List ℕ) → j < run l → getD l j 0 ≡ 0 → ⊥
 unfolding run
 run-above j [] h e = absurd (omega arith)
 run-above zero (x ∷ l) h e = absurd (omega (arith, rw (eq-eqb x 0 e) at h))

@@ -15,11 +15,11 @@ use Rattle.design.specs.Queue.{Design, netIn, mapNetNew}
 use Rattle.normalize.specs.declared.Outcome.{Outcome}
 use Rattle.normalize.specs.declared.Outcome.the-variants.{None, Value, Form, Add, NotOf, AddNotOf}
 use Rattle.rewrite.specs.Rewriter.{Rewriter, Lookup, entered, finished}
-use Rattle.rewrite.specs.Rewrite.{rules, Result, none, cell, value, spent, Added, at, unadded, processCell, addCell, Run, ran, stuck, bitDone, cellDone, runItem, andThen, runItems}
+use Rattle.rewrite.specs.Rewrite.{rules, Result, none, cell, value, spent, Added, at, unadded, process, processCell, addCell, Run, ran, stuck, bitDone, cellDone, runItem, andThen, runItems}
 use Rattle.aig_laws.specs.Reads.{GoodOutcome}
 use Rattle.order_laws.specs.Ordered.{has}
 use Rattle.order_laws.proofs.Walks.{eqb-self, or-left, or-right}
-use Rattle.rewrite_laws.proofs.Kept.{Keeps, KeptResult, KeptAdded, processCell-kept, addCell-kept}
+use Rattle.rewrite_laws.proofs.Kept.{Keeps, KeptResult, KeptAdded, process-kept, addCell-kept}
 
 -- while a cell is processed, cells and stamps are added behind the last, and nothing is replaced
 pub record Extends (r r′ : Rewriter) : Type 0 where
@@ -78,14 +78,18 @@ module _ (look : Lookup) (r : Rewriter) where
   ExtendsAdded (at n r′) = Extends r r′
   ExtendsAdded (unadded r′) = Extends r r′
 
-  pub processCell-extends : (c : Cell) → ExtendsResult (processCell look r c)
-  processCell-extends c = go (processCell look r c) (processCell-kept look (Extends r) _ _ extending r c (extends-none r) tt)
+  pub process-extends : (k : ℕ) (c : Cell) → ExtendsResult (process k look r c)
+  process-extends k c = go (process k look r c) (process-kept look (Extends r) _ _ extending k r c (extends-none r) tt)
     where
       go : (x : Result) → KeptResult look (Extends r) (λ r c. Unit {0}) (λ r n. Unit {0}) extending c x → ExtendsResult x
       go (none r′) h = h .kept
       go (cell d r′) h = h .kept
       go (value n r′) h = h .0
       go (spent r′) h = h
+
+  pub processCell-extends : (c : Cell) → ExtendsResult (processCell look r c)
+  unfolding processCell
+  processCell-extends c = process-extends _ c
 
   pub addCell-extends : (c : Cell) → ExtendsAdded (addCell look r c)
   addCell-extends c = go (addCell look r c) (addCell-kept look (Extends r) _ _ extending r c (extends-none r) tt)

@@ -43,7 +43,7 @@ module _ (look : Lookup) (P : Rewriter → Type 0) (Q : Rewriter → Cell → Ty
   KeptAdded (unadded r) = P r
 
   -- after one pass over the rules
-  abbrev KeptPass : Cell → Result → Type 0
+  abbrev pub KeptPass : Cell → Result → Type 0
   KeptPass c (none r) = P r × Q r c × (rules look r c ≡ None)
   KeptPass c (cell d r) = P r × Q r d
   KeptPass c (value n r) = P r × N r n
@@ -94,13 +94,17 @@ module _ (look : Lookup) (P : Rewriter → Type 0) (Q : Rewriter → Cell → Ty
   goOn-kept again f c (value n r) h = h
   goOn-kept again f c (spent r) h = h
 
+  pub pass-kept : (again : Rewriter → Cell → Result) → ((r : Rewriter) (c : Cell) → P r → Q r c → KeptResult c (again r c)) → (r : Rewriter) (c : Cell) → P r → Q r c
+      → KeptPass c (perform (λ r c. enter c (again r c)) r (rules look r c))
+  pass-kept again f r c p q =
+      perform-kept (λ r c. enter c (again r c)) (λ r c p q. enter-kept c (again r c) (f r c p q)) r c (rules look r c) p q refl (keeps .plan r c p q)
+
   pub process-kept : (k : ℕ) (r : Rewriter) (c : Cell) → P r → Q r c → KeptResult c (process k look r c)
   unfolding process
   process-kept zero r c p q = p
   process-kept (suc k) r c p q =
       goOn-kept (process k look) (process-kept k) c (perform (λ r c. enter c (process k look r c)) r (rules look r c))
-      (perform-kept (λ r c. enter c (process k look r c)) (λ r c p q. enter-kept c (process k look r c) (process-kept k r c p q)) r c (rules look r c) p q refl
-      (keeps .plan r c p q))
+      (pass-kept (process k look) (process-kept k) r c p q)
 
   pub processCell-kept : (r : Rewriter) (c : Cell) → P r → Q r c → KeptResult c (processCell look r c)
   unfolding processCell

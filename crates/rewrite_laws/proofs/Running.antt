@@ -47,7 +47,7 @@ use Rattle.rewrite_laws.proofs.Settled.{limit, driver-net, nets-map, ti
 use Rattle.rewrite_laws.proofs.Steps.{getD-last, later-settled, entered-later, entered-inv, entered-settled, finished-later, finished-inv}
 
 -- cells with effects
-visitMut-effects : (f : Net → Net) (c : Cell) → hasEffects (visitMut f c) ≡ hasEffects c
+pub visitMut-effects : (f : Net → Net) (c : Cell) → hasEffects (visitMut f c) ≡ hasEffects c
 unfolding visitMut hasEffects
 visitMut-effects f (Input l) = refl
 visitMut-effects f (Output a l) = refl
@@ -59,7 +59,7 @@ visitMut-effects f (Xor a b) = refl
 visitMut-effects f (Mux a b c) = refl
 visitMut-effects f (Aig p q) = refl
 
-splittable-gate : (c : Cell) → isSplittable c ≡ true → hasEffects c ≡ false
+pub splittable-gate : (c : Cell) → isSplittable c ≡ true → hasEffects c ≡ false
 unfolding hasEffects
 splittable-gate (Input l) e = absurd (false≢true e)
 splittable-gate (Output a l) e = absurd (false≢true e)
@@ -71,7 +71,7 @@ splittable-gate (Xor a b) e = refl
 splittable-gate (Mux a b c) e = refl
 splittable-gate (Aig p q) e = refl
 
-gate-not-input : (c : Cell) → hasEffects c ≡ false → isInput c ≡ false
+pub gate-not-input : (c : Cell) → hasEffects c ≡ false → isInput c ≡ false
 unfolding hasEffects
 gate-not-input c e = go (isInput c) (isOutput c) e
   where
@@ -91,7 +91,7 @@ effects-by-kind (Xor a b) = refl
 effects-by-kind (Mux a b c) = refl
 effects-by-kind (Aig p q) = refl
 
-equal-effects : (c d : Cell) → eqCell c d ≡ true → hasEffects d ≡ hasEffects c
+pub equal-effects : (c d : Cell) → eqCell c d ≡ true → hasEffects d ≡ hasEffects c
 unfolding eqCell eqRecord
 equal-effects c d e =
     let k : eqb (cellRecord 0 c .kind) (cellRecord 0 d .kind) ≡ true = and-both _ _ (and-both _ _ (and-both _ _ (and-both _ _ e .0) .0) .0) .0 in
@@ -111,7 +111,7 @@ rules-effect look r (Mux a b c) e = absurd (false≢true e)
 rules-effect look r (Aig p q) e = absurd (false≢true e)
 
 -- nothing is done with them
-effect-none : (look : Lookup) (r : Rewriter) (c : Cell) → hasEffects c ≡ true → ((m : Net) → seek (r .cache) c ≡ At m → ⊥) → processCell look r c ≡ none r
+pub effect-none : (look : Lookup) (r : Rewriter) (c : Cell) → hasEffects c ≡ true → ((m : Net) → seek (r .cache) c ≡ At m → ⊥) → processCell look r c ≡ none r
 unfolding processCell process
 effect-none look r c e h =
     let k : ℕ = weight (r .stamps) c in
@@ -122,7 +122,7 @@ effect-none look r c e h =
     go Nothing q = ap (asked r) q
 
 -- the cache with one more entry
-seek-snoc : (es : List Entry) (e : Entry) (x : Cell) (y : Net) → seek (es ++ (e ∷ [])) x ≡ At y → (seek es x ≡ At y) ⊎ ((eqCell (e .0) x ≡ true) × (e .1 ≡ y))
+pub seek-snoc : (es : List Entry) (e : Entry) (x : Cell) (y : Net) → seek (es ++ (e ∷ [])) x ≡ At y → (seek es x ≡ At y) ⊎ ((eqCell (e .0) x ≡ true) × (e .1 ≡ y))
 unfolding seek
 seek-snoc [] e x y h = go (eqCell (e .0) x) refl h
   where
@@ -163,7 +163,7 @@ module _ (cs₀ : List Cell) where
     pub done : (i : ℕ) → i < tickets cs₀ → has i before ≡ true → hasEffects (cellIn cs₀ i) ≡ false → 0 < getD (r .stamps) i 0
     pub waiting : (i : ℕ) → i < tickets cs₀ → has i before ≡ false → getD (r .stamps) i 0 ≡ 0
 
-  abbrev Few : Rewriter → Type 0
+  abbrev pub Few : Rewriter → Type 0
   Few r = length (r .design .cells) ≤ limit
 
   settled-constants : (ts : List ℕ) → Settled cs₀ ts UNDEF × Settled cs₀ ts ZERO × Settled cs₀ ts ONE
@@ -208,13 +208,13 @@ module _ (cs₀ : List Cell) where
 
   -- what processing keeps, as long as the slots are few
   module _ (before : List ℕ) where
-    abbrev P : Rewriter → Type 0
+    abbrev pub P : Rewriter → Type 0
     P r = Few r → State before r
 
-    abbrev Q : Rewriter → Cell → Type 0
+    abbrev pub Q : Rewriter → Cell → Type 0
     Q r c = Few r → GateOf (Settled cs₀ (r .stamps)) c
 
-    abbrev N : Rewriter → Net → Type 0
+    abbrev pub N : Rewriter → Net → Type 0
     N r m = Few r → Settled cs₀ (r .stamps) m
 
     delayed : (B : Type 0) (q : Cell → Type 0) (v : Net → Type 0) (o : Outcome) → (B → GoodOutcome q v o) → GoodOutcome (λ c. B → q c) (λ m. B → v m) o
@@ -278,7 +278,7 @@ module _ (cs₀ : List Cell) where
         waiting = λ i l h. same-stamp i l ∙ st .waiting i l h;
       }
 
-    keeping : Keeps findNewCell P Q N
+    pub keeping : Keeps findNewCell P Q N
     unfolding entered
     keeping = record {
       plan = plan-kept;
@@ -423,16 +423,16 @@ module _ (cs₀ : List Cell) where
       unfolding bitDeps
       here r′ st = settle before r′ st (visit (cellIn cs₀ s)) (wired s small) after
 
-      abbrev c : Cell
+      abbrev pub c : Cell
       c = visitMut (mapNetNew (r .design .replaced)) (cellIn (r .design .cells) s)
 
       untouched-cell : Few r → cellIn (r .design .cells) s ≡ cellIn cs₀ s
       untouched-cell few = p few .inv .untouched s small (p few .waiting s small new)
 
-      c-effects : Few r → hasEffects c ≡ hasEffects (cellIn cs₀ s)
+      pub c-effects : Few r → hasEffects c ≡ hasEffects (cellIn cs₀ s)
       c-effects few = visitMut-effects (mapNetNew (r .design .replaced)) (cellIn (r .design .cells) s) ∙ ap hasEffects (untouched-cell few)
 
-      c-settled : hasEffects c ≡ false → Q before r c
+      pub c-settled : hasEffects c ≡ false → Q before r c
       c-settled e few = (
         mapped-nets (Settled cs₀ (r .stamps)) (mapNetNew (r .design .replaced)) (map-settled cs₀ r (p few .inv) few) (cellIn (r .design .cells) s)
             (rw (untouched-cell few) (here r (p few))),
@@ -547,7 +547,7 @@ module _ (cs₀ : List Cell) where
         (λ q. let k : i ≡ length (tabulate f n) = omega (arith, e, l, ltb-false i n q) in
         ap (λ x. getD (tabulate f n ++ (f n ∷ [])) x d) k ∙ getD-last (tabulate f n) (f n) d ∙ ap f (omega (arith, e, l, ltb-false i n q)))
 
-    begun-state : State [] (begun cs₀)
+    pub begun-state : State [] (begun cs₀)
     unfolding unchanged has seek
     begun-state = record {
       inv = record {

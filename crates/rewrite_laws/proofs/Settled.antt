@@ -143,6 +143,10 @@ module _ (cs₀ : List Cell) where
     unfolding mapNetNew Follows
     map-settled m h = follows (length rs) m h .0
 
+    pub map-lower : (m : Net) → Settled ts m → stamp ts (mapNetNew rs m) ≤ stamp ts m
+    unfolding mapNetNew Follows
+    map-lower m h = follows (length rs) m h .1
+
     -- what a look-up of a settled net gives
     pub look-good : (m : Net) → Settled ts m → SourceNets (Under ts (stamp ts m)) (findNewCell (r .design) m)
     unfolding findNewCell mapNetNew Follows Settled stamp

@@ -1,0 +1,9 @@
+pub mod Tables
+pub mod Rules
+pub mod Processing
+pub mod Fitted
+pub mod Runs
+pub mod Refined
+pub mod Valued
+pub mod Outputs
+pub mod Calls

@@ -1,0 +1,157 @@
+-- The levels of the outputs, in their order, before and after rewriting. Assumes nothing.
+use mathlib.Core.Path.{_≡_, refl, sym, ap, ap₂, _∙_, subst}
+use mathlib.Core.Bool.{Bool, true}
+use mathlib.Core.List.{List, [], _∷_, _++_, map}
+use Prim.Native.Nat.{ℕ, zero, suc, _+_, _-_, _<_}
+use native.Mathlib.Omega.{arith}
+use lib.Dec.{ltb}
+use lib.ListN.{length, getD, length-append, length-map, List·getD-append}
+use lib.Seq.{getD-append-add}
+use borrow.Author.Tests.{lt-ltb, ltb-true, ltb-false}
+use Rattle.logic.specs.declared.Trit.{Trit}
+use Rattle.logic.specs.declared.Trit.the-variants.{Undef}
+use Rattle.logic.specs.Levels.{byteOf, eqLevel, refines, Refines}
+use Rattle.logic.proofs.Table.{same, finer, passes, given, at}
+use Rattle.logic.proofs.Laws.{refines-refl}
+use Rattle.value.specs.declared.Net.{Net}
+use Rattle.cell.specs.declared.Cell.{Cell}
+use Rattle.netlist.specs.Shape.{isInput, isOutput, hasEffects}
+use Rattle.netlist.specs.Netlist.{cellIn, slots}
+use Rattle.order.specs.Orders.{bitDeps, topoSort}
+use Rattle.design.specs.Queue.{netIn, applied}
+use Rattle.levels.specs.Evaluate.{levels, givenLevels, outputSlots, outputLevels}
+use Rattle.rewrite.specs.Rewriter.{Rewriter, Lookup}
+use Rattle.order_laws.specs.Ordered.{FedAfter}
+use Rattle.order_laws.proofs.Walks.{either, or-right}
+use Rattle.levels_laws.specs.Algebra.{All, cellValue, Fits, Ranked}
+use Rattle.levels_laws.specs.Instances.{kleene}
+use Rattle.levels_laws.proofs.Operands.{all-imp, all-both, cell-own}
+use Rattle.levels_laws.proofs.Levels.{levels-fit}
+use Rattle.rewrite_laws.proofs.Settled.{Inv}
+use Rattle.rewrite_laws.proofs.Running.{gate-not-input}
+use Rattle.kept.proofs.Lists.{those-pass, all-those, all-tabulate}
+use Rattle.rewrite_sound.proofs.Operands.{applied-length, port-stays}
+use Rattle.rewrite_sound.proofs.Ports.{more-slots, outputs-stay, given-stays}
+use Rattle.rewrite_sound.proofs.Result.{Ran}
+use Rattle.rewrite_kept.specs.Outcomes.{Constants}
+use Rattle.rewrite_kept.specs.Definite.{Definite}
+use Rattle.rewrite_kept.proofs.Runs.{Looks, Refined, run-leads}
+use Rattle.rewrite_kept.proofs.Refined.{slots-refined}
+use Rattle.rewrite_kept.proofs.Valued.{valued, valued-constants, valued-slot, valued-cell, valued-fits, unstamped}
+
+-- levels as bytes
+definite-level : (x y : Trit) → Refines y x → ltb (byteOf x) 2 ≡ true → y ≡ x
+unfolding refines eqLevel
+definite-level = at 2 (λ x y. given (finer y x) (given (passes (ltb (byteOf x) 2)) (same y x))) tt
+
+definite-at : (f g : ℕ → Trit) (xs : List ℕ) → All (λ x. Refines (g x) (f x)) xs → (k : ℕ) → getD (map byteOf (map f xs)) k 2 < 2
+    → getD (map byteOf (map g xs)) k 2 ≡ getD (map byteOf (map f xs)) k 2
+unfolding All
+definite-at f g [] h k l = refl
+definite-at f g (x ∷ xs) h zero l = ap byteOf (definite-level (f x) (g x) (h .0) (lt-ltb (byteOf (f x)) 2 l))
+definite-at f g (x ∷ xs) h (suc k) l = definite-at f g xs (h .1) k l
+
+pub definite-levels : (f g : ℕ → Trit) (xs : List ℕ) → All (λ x. Refines (g x) (f x)) xs → Definite (map byteOf (map f xs)) (map byteOf (map g xs))
+definite-levels f g xs h = record {
+  long = length-map (map g xs) byteOf ∙ length-map xs g ∙ sym (length-map (map f xs) byteOf ∙ length-map xs f);
+  same = λ k l. definite-at f g xs h k (omega arith);
+}
+
+pub definite-refl : (bs : List ℕ) → Definite bs bs
+definite-refl bs = record { long = refl; same = λ k l. refl }
+
+-- with the same bytes behind
+pub definite-append : (bs cs rest : List ℕ) → Definite bs cs → Definite (bs ++ rest) (cs ++ rest)
+definite-append bs cs rest d = record {
+  long = length-append cs rest ∙ ap (λ (k : ℕ). k + length rest) (d .long) ∙ sym (length-append bs rest);
+  same = λ k l. either (ltb k (length bs)) (λ e. inside k (ltb-true k (length bs) e) l) (λ e. outside k (k - length bs) (omega (arith, ltb-false k (length bs) e)));
+}
+  where
+    inside : (k : ℕ) → k < length bs → getD (bs ++ rest) k 2 < 2 → getD (cs ++ rest) k 2 ≡ getD (bs ++ rest) k 2
+    inside k m l =
+        let e : getD (bs ++ rest) k 2 ≡ getD bs k 2 = List·getD-append bs rest 2 k m in
+        List·getD-append cs rest 2 k (omega (arith, d .long)) ∙ d .same k (omega arith) ∙ sym e
+
+    outside : (k i : ℕ) → k ≡ length bs + i → getD (cs ++ rest) k 2 ≡ getD (bs ++ rest) k 2
+    outside k i e =
+        ap (λ (j : ℕ). getD (cs ++ rest) j 2) (e ∙ ap (λ (n : ℕ). n + i) (sym (d .long))) ∙ getD-append-add cs rest i 2
+        ∙ sym (ap (λ (j : ℕ). getD (bs ++ rest) j 2) e ∙ getD-append-add bs rest i 2)
+
+-- the netlist of a run, after the change queue is applied
+module _ (look : Lookup) (cs₀ : List Cell) (looks : Looks look cs₀) (fed : FedAfter (length cs₀) (bitDeps cs₀) [] (topoSort cs₀)) (rank : ℕ → ℕ) (ranked : Ranked cs₀ rank)
+    (x : Ran look cs₀) (rank′ : ℕ → ℕ) (ranked′ : Ranked (applied (x .last .design)) rank′) (stimulus : List ℕ) where
+  abbrev r : Rewriter
+  r = x .last
+
+  abbrev cs : List Cell
+  cs = applied (r .design)
+
+  abbrev inv : Inv cs₀ r
+  inv = x .ended .state .inv
+
+  -- the inputs' levels and those of all slots, before and after
+  abbrev own : List Cell → ℕ → Trit
+  own ds s = getD (givenLevels ds stimulus) s Undef
+
+  abbrev level : List Cell → ℕ → Trit
+  level ds s = getD (levels ds (givenLevels ds stimulus)) s Undef
+
+  fits′ : Fits kleene (own cs) cs (level cs)
+  fits′ = levels-fit cs rank′ ranked′ (givenLevels cs stimulus)
+
+  abbrev v : Net → Trit
+  v = valued cs₀ r inv (x .ended .few) (own cs) (level cs) fits′
+
+  consts : Constants v
+  consts = valued-constants cs₀ r inv (x .ended .few) (own cs) (level cs) fits′
+
+  -- inputs and outputs stand in their slots
+  module _ (s : ℕ) (l : s < length cs₀) (e : hasEffects (cellIn cs₀ s) ≡ true) where
+    inside : s < length (r .design .cells)
+    inside = omega (arith, more-slots cs₀ r (x .ended), applied-length r)
+
+    itself : getD (r .design .replaced) s (netIn s) ≡ netIn s
+    itself = unstamped cs₀ r inv (x .ended .few) (own cs) (level cs) fits′ s l (x .ended .shaped .ports s l e)
+
+    port-level : v (netIn s) ≡ level cs s
+    port-level = valued-slot cs₀ r inv (x .ended .few) (own cs) (level cs) fits′ s inside itself
+
+    port-cell : v (netIn s) ≡ cellValue kleene v (own cs₀ s) (cellIn cs₀ s)
+    port-cell =
+        valued-cell cs₀ r inv (x .ended .few) (own cs) (level cs) fits′ s inside itself
+        ∙ ap₂ (cellValue kleene v) (given-stays cs₀ r (x .ended) stimulus s l) (port-stays cs₀ r (x .ended) s l e)
+
+  gate-refined : (s : ℕ) → s < length cs₀ → Refined cs₀ v consts s
+  gate-refined s l =
+      run-leads cs₀ v consts look looks (x .ended .wired) fed r (x .is) (x .ended .few)
+      (valued-fits cs₀ r inv (x .ended .few) (own cs) (level cs) fits′) s l
+
+  each : (s : ℕ) → s < length cs₀ → Refines (v (netIn s)) (cellValue kleene v (own cs₀ s) (cellIn cs₀ s))
+  each s l =
+      either (hasEffects (cellIn cs₀ s))
+      (λ e. subst (Refines (v (netIn s))) (port-cell s l e) (refines-refl (v (netIn s))))
+      (λ e. subst (Refines (v (netIn s))) (cell-own kleene v Undef (own cs₀ s) (cellIn cs₀ s) (gate-not-input (cellIn cs₀ s) e)) (gate-refined s l e))
+
+  output-refined : (s : ℕ) → s < length cs₀ → isOutput (cellIn cs₀ s) ≡ true → Refines (level cs s) (level cs₀ s)
+  unfolding hasEffects
+  output-refined s l e =
+      subst (λ (y : Trit). Refines y (level cs₀ s)) (port-level s l (or-right (isInput (cellIn cs₀ s)) (isOutput (cellIn cs₀ s)) e))
+      (slots-refined cs₀ rank ranked v consts (own cs₀) (level cs₀)
+      (levels-fit cs₀ rank ranked (givenLevels cs₀ stimulus)) each s l)
+
+  outputs-refined : All (λ s. Refines (level cs s) (level cs₀ s)) (outputSlots cs₀)
+  unfolding outputSlots
+  outputs-refined =
+      let is : ℕ → Bool = λ s. isOutput (cellIn cs₀ s) in
+      let P : ℕ → Type 0 = λ s. is s ≡ true → Refines (level cs s) (level cs₀ s) in
+      all-imp (λ s. P s × (is s ≡ true)) (λ s. Refines (level cs s) (level cs₀ s)) (λ s a. a .0 (a .1)) (outputSlots cs₀)
+      (all-both P (λ s. is s ≡ true) (outputSlots cs₀)
+      (all-those is P (slots (length cs₀)) (all-tabulate P (λ s. s) (length cs₀) output-refined))
+      (those-pass is (slots (length cs₀))))
+
+  -- the law
+  pub applied-keeps : Definite (map byteOf (outputLevels cs₀ stimulus)) (map byteOf (outputLevels (applied (x .last .design)) stimulus))
+  unfolding outputLevels
+  applied-keeps =
+      subst (λ (ss : List ℕ). Definite (map byteOf (map (level cs₀) (outputSlots cs₀))) (map byteOf (map (level cs) ss))) (sym (outputs-stay cs₀ r (x .ended)))
+      (definite-levels (level cs₀) (level cs) (outputSlots cs₀) outputs-refined)

@@ -1,0 +1,1 @@
+// What rewriting keeps: there is no code here.
