@@ -1,0 +1,7 @@
+pub mod Members
+pub mod Least
+pub mod Reached
+pub mod Whole
+pub mod Order
+pub mod Keys
+pub mod Merged

@@ -1,0 +1,6 @@
+pub mod Stages
+pub mod Pairing
+pub mod Results
+pub mod Plain
+pub mod Calls
+pub mod Examples

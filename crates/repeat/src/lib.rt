@@ -1,0 +1,1 @@
+// One rewriting is enough: there is no code here.

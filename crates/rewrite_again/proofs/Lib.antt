@@ -1,0 +1,11 @@
+pub mod Cells
+pub mod Counts
+pub mod Origin
+pub mod State
+pub mod Passes
+pub mod Item
+pub mod Run
+pub mod Keeping
+pub mod Applied
+pub mod Whole
+pub mod Again

@@ -1,0 +1,65 @@
+-- The whole run over a normal netlist: it is not stuck, and takes at most twice as many slots. Assumes nothing.
+use mathlib.Core.Path.{_≡_, refl, sym, ap, _∙_}
+use mathlib.Core.Bool.{false≢true}
+use mathlib.Core.List.{List, []}
+use mathlib.Core.Logic.{inl}
+use Prim.Native.Nat.{ℕ, _+_, _≤_, _<_}
+use native.Mathlib.Omega.{arith}
+use lib.ListN.{length}
+use Rattle.cell.specs.declared.Cell.{Cell}
+use Rattle.cell.proofs.Lists.{tabulate-length, tabulate-at}
+use Rattle.netlist.specs.Shape.{visit, visitMut}
+use Rattle.netlist.specs.Netlist.{Netlist, cellIn, those}
+use Rattle.order.specs.Orders.{topoSort}
+use Rattle.design.specs.Queue.{netIn, unchanged, findNewCell}
+use Rattle.rewrite.specs.Rewriter.{begun}
+use Rattle.rewrite.specs.Rewrite.{Run, ran, stuck, run, slotsOf}
+use Rattle.order_laws.specs.Ordered.{has}
+use Rattle.order_laws.proofs.Bits.{topoSort-each}
+use Rattle.levels_laws.specs.Algebra.{All, Before, Ranked}
+use Rattle.levels_laws.proofs.Operands.{all-imp}
+use Rattle.normal.proofs.Normal.{Normal}
+use Rattle.normal.proofs.Alike.{visit-stays}
+use Rattle.rewrite_again.proofs.Origin.{origin-old, back-old}
+use Rattle.rewrite_again.proofs.State.{g, few, made-few}
+use Rattle.rewrite_again.proofs.Item.{St, Ran, items-ok}
+
+module _ (d : Netlist) (rank : ℕ → ℕ) (normal : Normal d rank) where
+  abbrev C : List Cell
+  C = d .cells
+
+  -- the netlist's own cells by its own slots
+  own-cell : (s : ℕ) → s < length C → visitMut (g d rank normal) (cellIn C s) ≡ cellIn C s
+  unfolding Ranked
+  own-cell s l =
+      visit-stays (g d rank normal) (cellIn C s)
+      (all-imp (Before C rank s) (λ n. g d rank normal n ≡ n) (λ n h. back-old C (few d rank normal) n (λ x e. h x e .0)) (visit (cellIn C s)) (normal .sound .ranked s l))
+
+  begun-state : St d rank normal [] (begun C)
+  unfolding unchanged those has All
+  begun-state = record {
+    size = omega arith;
+    wide = tabulate-length netIn (length C);
+    stands = λ i x l. record {
+      slot = i;
+      is = tabulate-at netIn (length C) x i l;
+      from = origin-old C i l;
+      moved = λ e h. absurd (false≢true h);
+      stays = λ e. refl;
+    };
+    added = λ m h l. absurd (omega (arith, h, l));
+    likes = λ m l. inl (own-cell m l ∙ ap (cellIn C) (sym (origin-old C m l)));
+    known = tt;
+  }
+
+  pub run-ok : Ran d rank normal (topoSort C) (run findNewCell C)
+  unfolding run
+  run-ok = items-ok d rank normal (topoSort C) [] (begun C) begun-state (topoSort-each C .once) refl (topoSort-each C .small)
+
+  -- so refusal 9 cannot come for at most 512 records
+  pub run-slots : slotsOf (run findNewCell C) ≤ length C + length C
+  run-slots = go (run findNewCell C) run-ok
+    where
+      go : (x : Run) → Ran d rank normal (topoSort C) x → slotsOf x ≤ length C + length C
+      go (ran r) st = omega (arith, st .size, made-few d rank normal)
+      go (stuck r) st = absurd st

@@ -1,0 +1,6 @@
+pub mod Cells
+pub mod Fresh
+pub mod Run
+pub mod Left
+pub mod Compacted
+pub mod Result
