@@ -1,1 +1,2 @@
 pub mod Aig
+pub mod Sources

@@ -1,0 +1,35 @@
+use Rattle.rewriter.proofs.Items.{mapped-is}
+use borrow.Author.Needs.{needs}
+use Rattle.rewriter.proofs.run.mapped_cell.Statement.{statement}
+use Rattle.rewriter.proofs.run.mapped_cell.Tie as tie
+use Rattle.rewriter.proofs.run.mapped_cell.Reads as reads
+use Rattle.rewriter.proofs.run.mapped_cell.Lts as lts
+use Rattle.cell.proofs.cell_of.Reads as cell-of-reads
+use Rattle.design.proofs.queue.replaced_record.Reads as replaced-record-reads
+use Rattle.design.proofs.visit.plain.Reads as plain-reads
+use Rattle.netlist.proofs.record_in.Reads as record-in-reads
+
+-- src/run.rt:52:36
+record-in-requires : tie.Need-record-in-requires
+record-in-requires c κs = search needs
+
+-- src/run.rt:52:9
+plain-requires : tie.Need-plain-requires
+plain-requires c κs = search needs
+
+-- src/run.rt:53:19
+replaced-record-requires : tie.Need-replaced-record-requires
+replaced-record-requires c κs = search needs
+
+-- src/run.rt:53:5
+cell-of-requires : tie.Need-cell-of-requires
+cell-of-requires c κs = search needs
+
+-- src/run.rt:48:1
+returns : tie.Need-returns
+returns c = search mapped-is
+
+pub mapped-cell-spec : {M : Type 1} → statement M
+mapped-cell-spec =
+    tie.close
+    (tie.spec record-in-requires plain-requires replaced-record-requires cell-of-requires returns)

@@ -1,0 +1,95 @@
+use Rattle.rewriter.proofs.Items.{none-held, none-room, none-small, none-on, cell-held, cell-room, cell-small, cell-on, value-held, value-room, value-small, value-on, cell-full}
+use borrow.Author.Needs.{needs}
+use Rattle.rewriter.proofs.run.run_cell.Statement.{statement}
+use Rattle.rewriter.proofs.run.run_cell.Tie as tie
+use Rattle.rewriter.proofs.run.run_cell.Reads as reads
+use Rattle.rewriter.proofs.run.run_cell.Lts as lts
+use Rattle.rewriter.proofs.cycle.process_cell.Reads as process-cell-reads
+use Rattle.rewriter.proofs.state.become_cell.Reads as become-cell-reads
+use Rattle.rewriter.proofs.state.replace.Reads as replace-reads
+use Rattle.rewriter.proofs.state.stay.Reads as stay-reads
+
+-- src/run.rt:72:11
+process-cell-requires : tie.Need-process-cell-requires
+process-cell-requires c κs = search needs
+
+-- src/run.rt:73:25
+enum-known-y : tie.Need-enum-known-y
+enum-known-y c = search needs
+
+-- src/run.rt:73:40
+stay-requires : tie.Need-stay-requires
+stay-requires c κs = (search none-held, (search none-room, search none-small))
+
+-- src/run.rt:74:25
+enum-known-d : tie.Need-enum-known-d
+enum-known-d c = search needs
+
+-- src/run.rt:74:43
+become-cell-requires : tie.Need-become-cell-requires
+become-cell-requires c κs = (search cell-held, (search cell-room, search cell-small))
+
+-- src/run.rt:75:26
+enum-known-n : tie.Need-enum-known-n
+enum-known-n c = search needs
+
+-- src/run.rt:75:44
+replace-requires : tie.Need-replace-requires
+replace-requires c κs = (search value-held, (search value-room, search value-small))
+
+-- src/run.rt:76:28
+enum-told : tie.Need-enum-told
+enum-told c = search needs
+
+-- src/run.rt:68:1
+same-length : tie.Need-same-length
+same-length c = search needs
+
+-- src/run.rt:68:1
+returns : tie.Need-returns
+returns c = search none-on
+
+-- src/run.rt:68:1
+same-length-2 : tie.Need-same-length-2
+same-length-2 c = search needs
+
+-- src/run.rt:68:1
+returns-2 : tie.Need-returns-2
+returns-2 c = search cell-on
+
+-- src/run.rt:68:1
+same-length-3 : tie.Need-same-length-3
+same-length-3 c = search needs
+
+-- src/run.rt:68:1
+returns-3 : tie.Need-returns-3
+returns-3 c = search value-on
+
+-- src/run.rt:68:1
+same-length-4 : tie.Need-same-length-4
+same-length-4 c = search needs
+
+-- src/run.rt:68:1
+returns-4 : tie.Need-returns-4
+returns-4 c = search cell-full
+
+pub run-cell-spec : {M : Type 1} → statement M
+run-cell-spec =
+    tie.close
+    (tie.spec
+    process-cell-requires
+    enum-known-y
+    stay-requires
+    enum-known-d
+    become-cell-requires
+    enum-known-n
+    replace-requires
+    enum-told
+    same-length
+    returns
+    same-length-2
+    returns-2
+    same-length-3
+    returns-3
+    same-length-4
+    returns-4)

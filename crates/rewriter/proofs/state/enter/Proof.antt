@@ -1,0 +1,88 @@
+-- `rewriter::state::enter` meets its contract. Assumes nothing.
+use Rattle.rewriter.proofs.Words.{enters}
+use Rattle.netlist.proofs.Frames.{within-none}
+use borrow.Author.Needs.{needs}
+use Rattle.rewriter.proofs.state.enter.Statement.{statement}
+use Rattle.rewriter.proofs.state.enter.Tie as tie
+use Rattle.rewriter.proofs.state.enter.Reads as reads
+use Rattle.rewriter.proofs.state.enter.Lts as lts
+use Rattle.cell.proofs.cell_record.Reads as cell-record-reads
+use Rattle.cell.proofs.put.Reads as put-reads
+use Rattle.netlist.proofs.put_record.Reads as put-record-reads
+use Rattle.rewriter.proofs.state.remember.Reads as remember-reads
+use Rattle.value.proofs.Net.from_cell_index.Reads as from-cell-index-reads
+
+-- src/state.rt:78:9
+returns : tie.Need-returns
+returns c = (search needs, search within-none)
+
+-- src/state.rt:81:34
+cell-record-requires : tie.Need-cell-record-requires
+cell-record-requires c κs = search needs
+
+-- src/state.rt:81:5
+put-record-requires : tie.Need-put-record-requires
+put-record-requires c κs = search needs
+
+-- src/state.rt:82:5
+remember-requires : tie.Need-remember-requires
+remember-requires c κs = search needs
+
+-- src/state.rt:83:31
+cast-put : tie.Need-cast-put
+cast-put c = search needs
+
+-- src/state.rt:83:21
+add-put : tie.Need-add-put
+add-put c = search needs
+
+-- src/state.rt:83:50
+add-put-2 : tie.Need-add-put-2
+add-put-2 c = search needs
+
+-- src/state.rt:83:5
+put-requires : tie.Need-put-requires
+put-requires c κs = search needs
+
+-- src/state.rt:86:16
+add-t17 : tie.Need-add-t17
+add-t17 c = search needs
+
+-- src/state.rt:87:18
+add-t18 : tie.Need-add-t18
+add-t18 c = search needs
+
+-- src/state.rt:88:16
+add-t19 : tie.Need-add-t19
+add-t19 c = search needs
+
+-- src/state.rt:90:15
+from-cell-index-requires : tie.Need-from-cell-index-requires
+from-cell-index-requires c κs = search needs
+
+-- src/state.rt:73:1
+same-length : tie.Need-same-length
+same-length c = search needs
+
+-- src/state.rt:73:1
+returns-2 : tie.Need-returns-2
+returns-2 c = search enters
+
+pub enter-spec : {M : Type 1} → statement M
+enter-spec =
+    tie.close
+    (tie.spec
+    returns
+    cell-record-requires
+    put-record-requires
+    remember-requires
+    cast-put
+    add-put
+    add-put-2
+    put-requires
+    add-t17
+    add-t18
+    add-t19
+    from-cell-index-requires
+    same-length
+    returns-2)

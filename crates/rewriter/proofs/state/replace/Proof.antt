@@ -1,0 +1,54 @@
+-- `rewriter::state::replace` meets its contract. Assumes nothing.
+use Rattle.rewriter.proofs.Words.{replaces}
+use borrow.Author.Needs.{needs}
+use Rattle.rewriter.proofs.state.replace.Statement.{statement}
+use Rattle.rewriter.proofs.state.replace.Tie as tie
+use Rattle.rewriter.proofs.state.replace.Reads as reads
+use Rattle.rewriter.proofs.state.replace.Lts as lts
+use Rattle.cell.proofs.put.Reads as put-reads
+use Rattle.design.proofs.queue.replace_net.Reads as replace-net-reads
+
+-- src/state.rt:100:5
+replace-net-requires : tie.Need-replace-net-requires
+replace-net-requires c κs = search needs
+
+-- src/state.rt:101:31
+cast-put : tie.Need-cast-put
+cast-put c = search needs
+
+-- src/state.rt:101:21
+add-put : tie.Need-add-put
+add-put c = search needs
+
+-- src/state.rt:101:46
+add-put-2 : tie.Need-add-put-2
+add-put-2 c = search needs
+
+-- src/state.rt:101:5
+put-requires : tie.Need-put-requires
+put-requires c κs = search needs
+
+-- src/state.rt:106:16
+add-t12 : tie.Need-add-t12
+add-t12 c = search needs
+
+-- src/state.rt:94:1
+same-length : tie.Need-same-length
+same-length c = search needs
+
+-- src/state.rt:94:1
+returns : tie.Need-returns
+returns c = search replaces
+
+pub replace-spec : {M : Type 1} → statement M
+replace-spec =
+    tie.close
+    (tie.spec
+    replace-net-requires
+    cast-put
+    add-put
+    add-put-2
+    put-requires
+    add-t12
+    same-length
+    returns)
