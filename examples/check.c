@@ -2,7 +2,7 @@
 #include <stdio.h>
 #include "cabbagetier.h"
 
-static uint8_t ticket[8209];
+static uint8_t ticket[8208];
 static uint32_t work[16384];
 
 int main(void)

@@ -2,7 +2,7 @@
 #include <stdio.h>
 #include "cabbagetier.h"
 
-static uint8_t ticket[8209], reply[8192];
+static uint8_t ticket[8208], reply[8192];
 static uint32_t work[16384];
 
 int main(void)

@@ -19,8 +19,9 @@
  * Numbers: 1 work under 16,384 words; 2 length no multiple of 16; 3 over 512 records; 4 unknown kind; 5 unused field
  * or flag not 0; 6 bit out of sequence; 7 an operand names no slot, or an output; 8 a bit reaches itself through
  * operands. 4 to 7: the lowest faulty record decides, and within it the lowest number; the place is that record.
- * 8: the place is the lowest record on a loop. 10 levels given differ in number from input records; 11 a level byte
- * above 2, the place its index, the lowest such; 12 the reply is too short for the result. The place of all others is 0.
+ * 8: the place is the lowest record on a loop. 9 rewriting needs more than 1,024 slots, the ticket's and each cell that
+ * it adds; 10 levels given differ in number from input records; 11 a level byte above 2, the place its index, the lowest
+ * such; 12 the reply is too short for the result. The place of all others is 0.
  * The first in the order of a call's line below decides.
  *
  * A reply is written from its start, as many bytes as answer[1] says; later bytes keep their content. A refusal changes
@@ -60,6 +61,13 @@ uint32_t cabbagetier_merge(const uint8_t *ticket, size_t ticket_len,
                            uint32_t *work, size_t work_len,
                            uint8_t *reply, size_t reply_len,
                            uint32_t answer[8]);
+
+/* Refusals 1 to 9, 12. The ticket simplified by `Normalize` and `SimpleAigOpt`, then as compact. A result has at most
+ * 1,024 records, so it may be longer than a ticket may be; a reply of 16,384 bytes holds every one. */
+uint32_t cabbagetier_rewrite(const uint8_t *ticket, size_t ticket_len,
+                             uint32_t *work, size_t work_len,
+                             uint8_t *reply, size_t reply_len,
+                             uint32_t answer[8]);
 
 #ifdef __cplusplus
 }

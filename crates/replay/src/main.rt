@@ -19,6 +19,7 @@ enum Call {
     Levels,
     Compact,
     Merge,
+    Rewrite,
 }
 
 fn judge(
@@ -44,6 +45,7 @@ fn judge(
         Call::Levels => reply::judge_levels(files, ticket, space, level_lent, seed),
         Call::Compact => { reply::judge(trial::Call::Compact, fd, ticket, b"", space, lent, seed) }
         Call::Merge => reply::judge(trial::Call::Merge, fd, ticket, b"", space, lent, seed),
+        Call::Rewrite => { reply::judge(trial::Call::Rewrite, fd, ticket, b"", space, lent, seed) }
     }
 }
 
@@ -147,5 +149,6 @@ fn main() {
     replay(Call::Check, b"check");
     replay(Call::Compact, b"compact");
     replay(Call::Merge, b"merge");
+    replay(Call::Rewrite, b"rewrite");
     replay(Call::Levels, b"levels");
 }

@@ -22,7 +22,7 @@ use Rattle.checking.specs.declared.Verdict.{Verdict}
 use Rattle.checking.specs.declared.Verdict.the-variants as verdict
 use Rattle.checking.specs.Refusals.{Stage, firstOf}
 use Rattle.checking.specs.Checking.{workStage, lengthStage, sizeStage, netlistStages, checkStages}
-use Rattle.checking.proofs.Stages.{first-refuses, first-passes, no-stage, later-decides, earlier-decides}
+use Rattle.checking.proofs.Stages.{first-refuses, first-passes, no-stage, later-decides, earlier-decides, passes-both}
 use Rattle.calls.specs.declared.Written.{Written}
 use Rattle.calls.specs.declared.Written.the-variants as written
 use Rattle.calls.specs.Answers.{writtenBy, writtenFigures, wordsOf}
@@ -97,6 +97,12 @@ module _ (words : ℕ) (t : List ℕ) (rest : List Stage) where
 
     pub passed-decides : v ≡ verdict.Pass → firstOf (checkStages words t ++ rest) ≡ firstOf rest
     passed-decides e = later-decides (checkStages words t) rest (sym v-is ∙ e)
+
+-- the records of a ticket that passes do
+pub passed-netlist : (words : ℕ) (t : List ℕ) (v : Verdict) → v ≡ firstOf (checkStages words t) → v ≡ verdict.Pass
+    → firstOf (netlistStages (recordsOf t)) ≡ verdict.Pass
+unfolding checkStages
+passed-netlist words t v v-is e = passes-both (workStage words ∷ lengthStage t ∷ sizeStage t ∷ []) (netlistStages (recordsOf t)) (sym v-is ∙ e) .1
 
 -- compacting
 module _ (words : ℕ) (t reply : List ℕ) where

@@ -2,6 +2,7 @@ pub mod Work
 pub mod Answers
 pub mod Delivering
 pub mod Merge
+pub mod Rewrite
 pub mod Written
 pub mod Stimulus
 pub mod Outputs

@@ -25,7 +25,7 @@ use Rattle.checking.specs.declared.Verdict.{Verdict}
 use Rattle.checking.specs.declared.Verdict.the-variants as verdict
 use Rattle.checking.specs.declared.Figures.{Figures}
 use Rattle.checking.specs.Refusals.{Stage, firstOf, figures, slotBySlot}
-use Rattle.checking.specs.Checking.{follows, outOfSequence, bitOutOfSequence, recordStages, loopStages, workStage, lengthStage, sizeStage, netlistStages, checkStages}
+use Rattle.checking.specs.Checking.{follows, outOfSequence, bitOutOfSequence, recordStages, loopStages, netlistStages, checkStages}
 use Rattle.checking.proofs.Stages.{passes-both, passed-exactly, slots-passed}
 use Rattle.calls.specs.declared.Written.{Written}
 use Rattle.calls.specs.declared.Written.the-variants as written
@@ -35,7 +35,7 @@ use Rattle.calls.specs.Answers.{writtenBy, mergedBy, Told, mergedFigures, answe
 use Rattle.calls.specs.Calls.{replyAfter, room, encoded, decoded, mergeBytes, mergeVerdict, mergeAnswer, mergeReply}
 use Rattle.ticket.specs.Delivery.{roomVerdict, Delivers}
 use Rattle.ticket.specs.Merge.{withFlag, LoadsMerged, DeliversMerged, MergesTicket}
-use Rattle.ticket.proofs.Delivering.{short-decides, refused-decides, passed-decides}
+use Rattle.ticket.proofs.Delivering.{short-decides, refused-decides, passed-decides, passed-netlist}
 
 -- the bits of a ticket that passes are in sequence
 bit-or-next : (e o z f : Bool) → (not e && (o || (z || not f))) ≡ false → (e ≡ true) ⊎ (f ≡ true)
@@ -79,9 +79,7 @@ module _ (rs : List Record) (passed : firstOf (netlistStages rs) ≡ verdict.Pas
   }
 
 pub passed-sequenced : (words : ℕ) (t : List ℕ) (v : Verdict) → v ≡ firstOf (checkStages words t) → v ≡ verdict.Pass → Sequenced (decoded t .bits)
-unfolding checkStages
-passed-sequenced words t v p e =
-    records-sequenced (recordsOf t) (passes-both (workStage words ∷ lengthStage t ∷ sizeStage t ∷ []) (netlistStages (recordsOf t)) (sym p ∙ e) .1)
+passed-sequenced words t v p e = records-sequenced (recordsOf t) (passed-netlist words t v p e)
 
 pub loaded-sequenced : (t : List ℕ) (n : ℕ) (ws : List ℕ) → recordsIn n ws ≡ recordsOf t → Sequenced (decoded t .bits) → Sequenced (netlistIn n ws .bits)
 loaded-sequenced t n ws e q = subst (λ (rs : List Record). Sequenced (netlistOf rs .bits)) (sym e) q

@@ -1,3 +1,4 @@
 pub mod Delivery
 pub mod Merge
+pub mod Rewrite
 pub mod Levels

@@ -1,4 +1,5 @@
 // Levels of the outputs for a stimulus.
+use crate::delivery;
 use calls::Written;
 use checking::Refusal;
 use checking::Verdict;
@@ -116,7 +117,7 @@ pub fn levels(ticket: &[u8], stimulus: &[u8], work: &mut [u32], reply: &mut [u8]
         return Written::Refused(Refusal::ShortWork);
     }
     let r = answered(ticket, stimulus, work, reply);
-    super::wipe(work);
+    crate::wipe(work);
     r
 }
 
@@ -133,15 +134,6 @@ pub extern "C" fn cabbagetier_levels(
     ensures { λ _. ⌜ now (work .exit) ≡ cleared (now (work .entry)) ⌝ }
     ensures { λ _. ⌜ now (answer .exit) ≡ wordsOf (writtenFigures (levelAnswer (length (now (work .entry))) (now (ticket .entry)) (now (levels .entry)) (now (reply .entry)))) ⌝ }
 {
-    match self::levels(ticket, levels, work, reply) {
-        Written::Accepted(bytes) => {
-            super::tell(answer, 0, bytes, 0);
-            0
-        }
-        Written::Refused(x) => {
-            let f = checking::figures_of(x);
-            super::tell(answer, f.place, 0, 0);
-            f.number
-        }
-    }
+    let w = self::levels(ticket, levels, work, reply);
+    delivery::tell_written(w, answer)
 }

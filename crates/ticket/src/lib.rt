@@ -1,8 +1,9 @@
 // The public calls: every refusal, every lent buffer's end content, and the exports for C.
 pub mod compact;
-pub mod delivery;
+mod delivery;
 pub mod levels_call;
 pub mod merge_call;
+pub mod rewrite_call;
 
 use calls::Checked;
 use checking::Refusal;

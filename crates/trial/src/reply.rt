@@ -8,6 +8,7 @@ pub enum Call {
     Levels,
     Compact,
     Merge,
+    Rewrite,
 }
 
 // How many words of work and how many bytes of reply are lent.
@@ -37,6 +38,7 @@ fn number_of(
         }
         Call::Compact => ticket::compact::cabbagetier_compact(ticket, work, reply, answer),
         Call::Merge => ticket::merge_call::cabbagetier_merge(ticket, work, reply, answer),
+        Call::Rewrite => ticket::rewrite_call::cabbagetier_rewrite(ticket, work, reply, answer),
     }
 }
 
