@@ -1,5 +1,5 @@
 -- What the operands of a looked-up cell say of the tests for its kind. Assumes nothing.
-use mathlib.Core.Path.{_≡_, refl, sym, ap, _∙_, subst}
+use mathlib.Core.Path.{_≡_, refl, sym, ap, _∙_}
 use Rattle.value.specs.declared.Net.{Net}
 use Rattle.value.specs.declared.ControlNet.{ControlNet}
 use Rattle.cell.specs.declared.Cell.the-variants.{Input, Output, Buf, Not, And, Or, Xor, Mux, Aig}
@@ -7,6 +7,7 @@ use Rattle.design.specs.declared.Source.{Source}
 use Rattle.design.specs.declared.Source.the-variants.{Opaque, Known}
 use Rattle.normalize.specs.declared.Outcome.{Outcome}
 use Rattle.normalize.specs.declared.Outcome.the-variants.{None}
+use Rattle.normalize.specs.Outcomes.{_orElse_}
 use Rattle.aig.specs.declared.Inverter.{Inverter}
 use Rattle.aig.specs.declared.Inverter.the-variants as inverter
 use Rattle.aig.specs.declared.AndInverter.{AndInverter}
@@ -80,6 +81,15 @@ no-aig src f x e g = sym (aig-in src f ∙ ap (λ y. inAig y f) (sym e ∙ g))
 pub of-aig : (src : Source) (f : ControlNet → ControlNet → Outcome) (x : AndInverter) (p q : ControlNet) (o : Outcome) → x ≡ aigIn src
     → x ≡ and-inverter.Of p q → o ≡ f p q → o ≡ ifAig src f
 of-aig src f x p q o e g h = h ∙ sym (aig-in src f ∙ ap (λ y. inAig y f) (sym e ∙ g))
+
+-- the same of two rules that ask for an and-inverter
+pub no-aigs : (src : Source) (f g : ControlNet → ControlNet → Outcome) (x : AndInverter) → x ≡ aigIn src → x ≡ and-inverter.Other → None ≡ (ifAig src f orElse ifAig src g)
+unfolding _orElse_
+no-aigs src f g x e k = rw (← no-aig src f x e k, ← no-aig src g x e k)
+
+pub of-aigs : (src : Source) (f g : ControlNet → ControlNet → Outcome) (x : AndInverter) (p q : ControlNet) (o : Outcome) → x ≡ aigIn src
+    → x ≡ and-inverter.Of p q → o ≡ (f p q orElse g p q) → o ≡ (ifAig src f orElse ifAig src g)
+of-aigs src f g x p q o e k h = rw (← of-aig src f x p q (f p q) e k refl, ← of-aig src g x p q (g p q) e k refl) h
 
 pub no-xor : (src : Source) (f : Net → Net → Outcome) (x : XorGate) → x ≡ xorIn src → x ≡ xor-gate.Other → None ≡ ifXor src f
 no-xor src f x e g = sym (xor-in src f ∙ ap (λ y. inXor y f) (sym e ∙ g))

@@ -6,7 +6,7 @@ use Prim.Native.Nat.{ℕ, zero, suc, _+_, _-_, _*_, _<_, _≤_}
 use native.Mathlib.Omega.{arith}
 use native.Mathlib.Numerals.{add-one}
 use native.Mathlib.Decide.{decLt}
-use lib.Dec.{eqb}
+use lib.Dec.{T, eqb, leb, leb→le, nleb→lt}
 use lib.ListN.{length, getD, length-append, length-map, List·getD-eq-default}
 use lib.Seq.{sets, length-sets}
 use Rattle.logic.specs.declared.Trit.{Trit}
@@ -29,7 +29,7 @@ use Rattle.order.proofs.Bits.{those-append}
 use Rattle.order.proofs.Words.{marks-length}
 use Rattle.design.specs.Queue.{netIn}
 use Rattle.design.specs.Compact.{keep, isKept, keptSlots, countKept, netMap, compact}
-use Rattle.design.specs.Words.{netlistIn, renumberedIn, Noted, keptAt, keptIn, renamedRecord, renumberedRecord, keptBytes}
+use Rattle.design.specs.Words.{netlistIn, renumberedIn, Noted, Numbered, keptAt, keptIn, renamedRecord, renumberedRecord, keptBytes}
 use Rattle.design.specs.Fields.{renamedFields}
 use Rattle.design.proofs.Visiting.{renamed-plain}
 use Rattle.design.proofs.Lists.{map-append, map-at, tabulate-map, map-those, ticket-append, ticket-length}
@@ -79,14 +79,14 @@ module _ (bits : List ℕ) (marks : List Bool) where
             let m : n ≤ s = omega arith in
             count-more s ∙ ap (λ (b : Bool). countKept bits marks s + cond b 1 0) (past-kept s m) ∙ (let e : countKept bits marks s + 0 ≡ countKept bits marks s = omega arith in e) ∙ rec m
 
--- the loop of `count_to`, over the notes
-pub record Counting (n : ℕ) (ws : List ℕ) (m i count : ℕ) : Type 0 where
-  pub upto : i ≤ m
+-- the loop of `count_between`, over the notes
+pub record Counting (n : ℕ) (ws : List ℕ) (from to i count : ℕ) : Type 0 where
+  pub upto : i ≤ to
   pub few : count ≤ i
-  pub counted : count ≡ keptIn n ws i
+  pub counted : keptIn n ws from + count ≡ keptIn n ws i
 
-pub counting-none : (n : ℕ) (ws : List ℕ) (m : ℕ) → Counting n ws m 0 0
-counting-none n ws m = record { upto = omega arith; few = omega arith; counted = sym (count-none (netlistIn n ws .bits) (marksIn visitedAt n ws)) }
+pub counting-none : (n : ℕ) (ws : List ℕ) (from to : ℕ) → from ≤ to → Counting n ws from to from 0
+counting-none n ws from to h = record { upto = h; few = omega arith; counted = omega arith }
 
 at-most-one : (b : Bool) → cond b 1 0 ≤ 1
 at-most-one true = omega arith
@@ -96,29 +96,119 @@ module _ (n : ℕ) (ws : List ℕ) (noted : Noted n ws) where
   pub note-few : (i : ℕ) → i < n → getD ws (5120 + i) 0 ≤ 1
   note-few i l = rw (noted .each i l) (at-most-one (keptAt n ws i))
 
-  module _ (m i count : ℕ) (g : Counting n ws m i count) where
-    pub counting-fits : m ≤ n → i < m → count + getD ws (5120 + i) 0 < 4294967296
+  module _ (from to i count : ℕ) (g : Counting n ws from to i count) where
+    pub counting-fits : to ≤ n → i < to → count + getD ws (5120 + i) 0 < 4294967296
     counting-fits h l =
         let few : n ≤ 1024 = noted .few in
         let u : count ≤ i = g .few in omega (arith, note-few i (omega arith))
 
-    pub counting-more : m ≤ n → i < m → Counting n ws m (i + 1) (count + getD ws (5120 + i) 0)
+    pub counting-more : to ≤ n → i < to → Counting n ws from to (i + 1) (count + getD ws (5120 + i) 0)
     counting-more h l = record {
       upto = omega arith;
       few = let u : count ≤ i = g .few in omega (arith, note-few i (omega arith));
-      counted = rw (add-one i) (ap₂ _+_ (g .counted) (noted .each i (omega arith)) ∙ sym (count-more (netlistIn n ws .bits) (marksIn visitedAt n ws) i));
+      counted = rw (add-one i) (omega (arith, g .counted, noted .each i (omega arith), count-more (netlistIn n ws .bits) (marksIn visitedAt n ws) i));
     }
 
-    pub counted-all : m ≤ i → count ≡ keptIn n ws m
-    counted-all h = g .counted ∙ ap (keptIn n ws) (let e : i ≡ m = let u : i ≤ m = g .upto in omega arith in e)
+    pub counted-all : to ≤ i → keptIn n ws from + count ≡ keptIn n ws to
+    counted-all h = g .counted ∙ ap (keptIn n ws) (let e : i ≡ to = let u : i ≤ to = g .upto in omega arith in e)
 
-    pub counted-few : m ≤ n → count ≤ n
-    counted-few h = let u : count ≤ i = g .few in let v : i ≤ m = g .upto in omega arith
+pub kept-few : (n : ℕ) (ws : List ℕ) (s : ℕ) → keptIn n ws s ≤ s
+kept-few n ws zero = omega (arith, count-none (netlistIn n ws .bits) (marksIn visitedAt n ws))
+kept-few n ws (suc s) =
+    omega (arith, kept-few n ws s, count-more (netlistIn n ws .bits) (marksIn visitedAt n ws) s, at-most-one (keptAt n ws s))
+
+-- from the first slot
+pub from-first : (n : ℕ) (ws : List ℕ) (m r : ℕ) → keptIn n ws 0 + r ≡ keptIn n ws m → r ≡ keptIn n ws m
+from-first n ws m r e = omega (arith, e, count-none (netlistIn n ws .bits) (marksIn visitedAt n ws))
+
+pub first-few : (n : ℕ) (ws : List ℕ) (m r : ℕ) → m ≤ n → keptIn n ws 0 + r ≡ keptIn n ws m → r ≤ n
+first-few n ws m r h e = omega (arith, from-first n ws m r e, kept-few n ws m)
 
 -- no slot past the last one is kept
 pub counted-past : (n : ℕ) (ws : List ℕ) (s : ℕ) → n ≤ s → (k : ℕ) → k ≡ keptIn n ws n → k ≡ keptIn n ws s
 counted-past n ws s h k e =
     e ∙ sym (count-past (netlistIn n ws .bits) (marksIn visitedAt n ws) n (omega (arith, bits-length n ws)) (omega (arith, marks-length n ws)) s h)
+
+-- a test of numbers, taken or left
+test-le : (x y : ℕ) (b : Bool) → b ≡ leb x y → b ≡ true → x ≤ y
+test-le x y b e t = leb→le x y (subst T (sym t ∙ e) tt)
+
+test-gt : (x y : ℕ) (b : Bool) → b ≡ leb x y → b ≡ false → y < x
+test-gt x y b e t = nleb→lt x y (subst (λ (v : Bool). T (not v)) (sym t ∙ e) tt)
+
+-- from another, on or back
+module _ (n : ℕ) (ws : List ℕ) (m from base : ℕ) (h : m ≤ n) (g : Numbered n from base ws) where
+  module _ (on : Bool) (on-is : on ≡ leb from m) (low high : ℕ) (l : low ≡ cond on from m) (u : high ≡ cond on m from) where
+    pub low-high : low ≤ high
+    low-high = go on refl
+      where
+        go : (b : Bool) → on ≡ b → low ≤ high
+        go true e = rw (l, u, e) (test-le from m on on-is e)
+        go false e = let q : m < from = test-gt from m on on-is e in rw (l, u, e) (omega arith)
+
+    pub high-end : high ≤ n
+    high-end = go on refl
+      where
+        go : (b : Bool) → on ≡ b → high ≤ n
+        go true e = rw (u, e) h
+        go false e = rw (u, e) (g .within)
+
+    module _ (r : ℕ) (e : keptIn n ws low + r ≡ keptIn n ws high) where
+      between : (b : Bool) → on ≡ b → keptIn n ws (cond b from m) + r ≡ keptIn n ws (cond b m from)
+      between b t =
+          ap (λ (k : ℕ). keptIn n ws k + r) (sym (l ∙ ap (λ (c : Bool). cond c from m) t)) ∙ e
+          ∙ ap (keptIn n ws) (u ∙ ap (λ (c : Bool). cond c m from) t)
+
+      module _ (t : on ≡ true) where
+        pub on-from : base + r ≡ keptIn n ws m
+        on-from = omega (arith, between true t, g .number)
+
+        pub on-few : base + r ≤ n
+        on-few = omega (arith, on-from, kept-few n ws m)
+
+        pub on-fits : base + r < 4294967296
+        on-fits = let few : n ≤ 1024 = g .noted .few in omega (arith, on-few)
+
+      module _ (t : on ≡ false) where
+        pub back-fits : r ≤ base
+        back-fits = omega (arith, between false t, g .number)
+
+        pub back-from : base - r ≡ keptIn n ws m
+        back-from = omega (arith, between false t, g .number)
+
+        pub back-few : base - r ≤ n
+        back-few = omega (arith, back-from, kept-few n ws m)
+
+-- where counting starts, and where it ends
+pub numbered-near : (n s at : ℕ) (ws : List ℕ) → Numbered n s at ws → (b : Bool) (from base : ℕ) → from ≡ cond b s 0 → base ≡ cond b at 0 → Numbered n from base ws
+numbered-near n s at ws g true from base e f = record { noted = g .noted; within = rw e (g .within); number = rw (e, f) (g .number) }
+numbered-near n s at ws g false from base e f =
+    record { noted = g .noted; within = rw e (omega arith); number = rw (e, f) (sym (count-none (netlistIn n ws .bits) (marksIn visitedAt n ws))) }
+
+module _ (n : ℕ) (ws : List ℕ) (x : ℕ) (b : Bool) (b-is : b ≡ leb x n) (m : ℕ) (m-is : m ≡ cond b x n) where
+  pub end-few : m ≤ n
+  end-few = go b refl
+    where
+      go : (c : Bool) → b ≡ c → m ≤ n
+      go true e = rw (m-is, e) (test-le x n b b-is e)
+      go false e = rw (m-is, e) (omega arith)
+
+  pub twice-fits : (s at : ℕ) → Numbered n s at ws → 2 * m < 4294967296
+  twice-fits s at g = let few : n ≤ 1024 = g .noted .few in omega (arith, end-few)
+
+  pub counted-end : (k : ℕ) → k ≡ keptIn n ws m → k ≡ keptIn n ws x
+  counted-end k f = go b refl
+    where
+      go : (c : Bool) → b ≡ c → k ≡ keptIn n ws x
+      go true e = f ∙ ap (keptIn n ws) (rw (m-is, e) refl)
+      go false e =
+          let past : n < x = test-gt x n b b-is e in
+          counted-past n ws x (omega arith) k (f ∙ ap (keptIn n ws) (rw (m-is, e) refl))
+
+pub next-fits : (n s at : ℕ) (ws : List ℕ) → Numbered n s at ws → at + 1 < 4294967296
+next-fits n s at ws g =
+    let few : n ≤ 1024 = g .noted .few in
+    let within : s ≤ n = g .within in omega (arith, g .number, kept-few n ws s)
 
 -- a note, as the test that `compact` makes
 pub noted-at : (n : ℕ) (ws : List ℕ) → Noted n ws → (s : ℕ) → s < n → (w : ℕ) → w ≡ getD ws (5120 + s) 0 → not (eqb w 0) ≡ keptAt n ws s
@@ -228,6 +318,9 @@ module _ (n : ℕ) (ws : List ℕ) (s : ℕ) where
       ∙ ap (λ (k : ℕ). k * 16) (length-map (keptSlots (netlistIn n ws .bits) (marksIn visitedAt n ws) s) (renumberedRecord n ws))
 
   module _ (reply₀ reply : List ℕ) (at : ℕ) (g : Writing n ws reply₀ reply s at) where
+    pub writing-numbered : Noted n ws → Numbered n s at ws
+    writing-numbered h = record { noted = h; within = g .upto; number = g .number }
+
     pub writing-more : s < n → (at′ : ℕ) → at′ ≡ at + cond (keptAt n ws s) 1 0 → (reply′ : List ℕ) → reply′ ≡ sets reply (at * 16) (keptBytes n ws s) → Writing n ws reply₀ reply′ (s + 1) at′
     writing-more l at′ e reply′ f = record {
       upto = omega arith;

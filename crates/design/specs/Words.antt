@@ -57,6 +57,12 @@ pub record Noted (n : ℕ) (ws : List ℕ) : Type 0 where
   pub few : n ≤ 1024
   pub each : (s : ℕ) → s < n → getD ws (orderAt + s) 0 ≡ cond (keptAt n ws s) 1 0
 
+-- with these, a slot up to the last and how many before it are kept
+pub record Numbered (n s at : ℕ) (ws : List ℕ) : Type 0 where
+  pub noted : Noted n ws
+  pub within : s ≤ n
+  pub number : at ≡ keptIn n ws s
+
 pub record Notes (n : ℕ) (ws ws′ : List ℕ) : Type 0 where
   pub noted : Noted n ws′
   pub frame : Within orderAt replacedAt ws ws′

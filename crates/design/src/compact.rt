@@ -16,7 +16,7 @@ ghost use Rattle.netlist.specs.Areas.{marksIn, visitedAt};
 ghost use Rattle.netlist.specs.Netlist.{encode, ticketOf};
 ghost use Rattle.design.specs.Compact.{keep, compact};
 ghost use Rattle.design.specs.Fields.{renamedFields};
-ghost use Rattle.design.specs.Words.{netlistIn, renumberedIn, isRoot, rootAt, Marked, Noted, Notes, Keeps, keptAt, keptIn, keptBytes};
+ghost use Rattle.design.specs.Words.{netlistIn, renumberedIn, isRoot, rootAt, Marked, Noted, Numbered, Notes, Keeps, keptAt, keptIn, keptBytes};
 
 pub fn has_effects(c: Cell) -> bool
     ensures { λ r. ⌜ r ≡ hasEffects c ⌝ }
@@ -88,7 +88,7 @@ fn note_kept(work: &mut [u32], n: u32)
 {
     let mut s: u32 = 0;
     while s < n {
-        let kept = visit::pick32(is_kept(work, n, Slot(s)), 1, 0);
+        let kept = logic::pick32(is_kept(work, n, Slot(s)), 1, 0);
         cell::put(work, NOTES + (s as usize), kept);
         s += 1;
     }
@@ -104,15 +104,15 @@ pub fn keep(work: &mut [u32], n: u32)
     note_kept(work, n);
 }
 
-// How many of the first m slots are kept.
-fn count_to(work: &[u32], n: u32, m: u32) -> u32
+// How many of the slots from one up to another are kept.
+fn count_between(work: &[u32], n: u32, from: u32, to: u32) -> u32
     requires { ⌜ Noted n (now work) ⌝ }
-    requires { ⌜ m ≤ n ⌝ }
-    ensures { λ r. ⌜ r ≡ keptIn n (now (work .entry)) m ⌝ }
-    ensures { λ r. ⌜ r ≤ n ⌝ }
+    requires { ⌜ from ≤ to ⌝ }
+    requires { ⌜ to ≤ n ⌝ }
+    ensures { λ r. ⌜ keptIn n (now (work .entry)) from + r ≡ keptIn n (now (work .entry)) to ⌝ }
 {
-    let end = m as usize;
-    let mut i: usize = 0;
+    let end = to as usize;
+    let mut i = from as usize;
     let mut count: u32 = 0;
     while i < end {
         count += work[NOTES + i];
@@ -121,25 +121,40 @@ fn count_to(work: &[u32], n: u32, m: u32) -> u32
     count
 }
 
-// How many slots before a slot are kept: its new number.
-fn count_kept(work: &[u32], n: u32, s: Slot) -> u32
-    requires { ⌜ Noted n (now work) ⌝ }
-    ensures { λ r. ⌜ r ≡ keptIn n (now (work .entry)) (s .0) ⌝ }
+// How many of the first m slots are kept, counted on or back from a slot whose number is `base`. One loop serves both ways.
+fn count_from(work: &[u32], n: u32, m: u32, from: u32, base: u32) -> u32
+    requires { ⌜ Numbered n from base (now work) ⌝ }
+    requires { ⌜ m ≤ n ⌝ }
+    ensures { λ r. ⌜ r ≡ keptIn n (now (work .entry)) m ⌝ }
     ensures { λ r. ⌜ r ≤ n ⌝ }
 {
-    if s.0 < n {
-        return count_to(work, n, s.0);
-    }
-    count_to(work, n, n)
+    let on = from <= m;
+    let low = logic::pick32(on, from, m);
+    let high = logic::pick32(on, m, from);
+    let count = count_between(work, n, low, high);
+    if on { base + count } else { base - count }
 }
 
-pub fn net_map(work: &[u32], n: u32, x: Net) -> Net
-    requires { ⌜ Noted n (now work) ⌝ }
+// How many slots before slot x are kept: its new number. It is counted from the nearer of the first slot and slot s, whose number is `at`.
+fn count_kept(work: &[u32], n: u32, x: Slot, s: Slot, at: u32) -> u32
+    requires { ⌜ Numbered n (s .0) at (now work) ⌝ }
+    ensures { λ r. ⌜ r ≡ keptIn n (now (work .entry)) (x .0) ⌝ }
+    ensures { λ r. ⌜ r ≤ n ⌝ }
+{
+    let m = logic::pick32(x.0 <= n, x.0, n);
+    let near = s.0 <= 2 * m;
+    let from = logic::pick32(near, s.0, 0);
+    count_from(work, n, m, from, logic::pick32(near, at, 0))
+}
+
+// The net of a record that slot s reads, under its new number; that of slot s is `at`.
+fn net_map(work: &[u32], n: u32, x: Net, s: Slot, at: u32) -> Net
+    requires { ⌜ Numbered n (s .0) at (now work) ⌝ }
     ensures { λ r. ⌜ r ≡ renumberedIn n (now (work .entry)) x ⌝ }
 {
     match x.as_cell_index() {
         Driver::Const(_) => x,
-        Driver::Cell(s) => Net::from_cell_index(Slot(count_kept(work, n, s))),
+        Driver::Cell(y) => Net::from_cell_index(Slot(count_kept(work, n, y, s, at))),
     }
 }
 
@@ -149,7 +164,7 @@ pub fn kept_count(work: &[u32], n: u32) -> u32
     ensures { λ r. ⌜ r ≡ keptIn n (now (work .entry)) n ⌝ }
     ensures { λ r. ⌜ r ≤ n ⌝ }
 {
-    count_to(work, n, n)
+    count_between(work, n, 0, n)
 }
 
 // Whether a slot is noted as kept.
@@ -161,31 +176,27 @@ fn is_noted(work: &[u32], n: u32, s: Slot) -> bool
     cell::word(work, NOTES + (s.0 as usize)) != 0
 }
 
-// A cell's record with the new numbers of its operands.
-fn renumbered_record(work: &[u32], n: u32, r: Record) -> Record
-    requires { ⌜ Noted n (now work) ⌝ }
+// The record of slot s with the new numbers of its operands; its own is `at`.
+fn renumbered_record(work: &[u32], n: u32, r: Record, s: Slot, at: u32) -> Record
+    requires { ⌜ Numbered n (s .0) at (now work) ⌝ }
     ensures { λ x. ⌜ x ≡ renamedFields (renumberedIn n (now (work .entry))) r ⌝ }
 {
-    let a = net_map(work, n, visit::net_a(r));
-    let b = net_map(work, n, visit::net_b(r));
-    let c = net_map(work, n, Net(r.c));
+    let a = net_map(work, n, visit::net_a(r), s, at);
+    let b = net_map(work, n, visit::net_b(r), s, at);
+    let c = net_map(work, n, Net(r.c), s, at);
     visit::with_nets(r, a, b, c)
 }
 
 // Writes the record of a slot, if it is kept, and gives the number of the next.
 fn copy_kept(work: &[u32], n: u32, s: Slot, reply: &mut [u8], at: u32) -> u32
-    requires { ⌜ Noted n (now work) ⌝ }
+    requires { ⌜ Numbered n (s .0) at (now work) ⌝ }
     requires { ⌜ s .0 < n ⌝ }
-    requires { ⌜ at ≤ s .0 ⌝ }
     ensures { λ r. ⌜ r ≡ at + cond (keptAt n (now (work .entry)) (s .0)) 1 0 ⌝ }
     ensures { λ _. ⌜ now (reply .exit) ≡ sets (now (reply .entry)) (at * 16) (keptBytes n (now (work .entry)) (s .0)) ⌝ }
 {
     if is_noted(work, n, s) {
-        cell::write_record(
-            reply,
-            Slot(at),
-            renumbered_record(work, n, visit::plain(netlist::record_in(work, s))),
-        );
+        let own = visit::plain(netlist::record_in(work, s));
+        cell::write_record(reply, Slot(at), renumbered_record(work, n, own, s, at));
         return at + 1;
     }
     at

@@ -2,21 +2,8 @@
 use cell::Record;
 use value::Net;
 ghost use mathlib.Core.Path.{_≡_};
-ghost use mathlib.Core.Bool.{cond};
 ghost use Rattle.cell.specs.Records.{cellOf, cellRecord};
 ghost use Rattle.design.specs.Fields.{netA, netB, withNets};
-
-pub fn pick8(b: bool, x: u8, y: u8) -> u8
-    ensures { λ r. ⌜ r ≡ cond b x y ⌝ }
-{
-    if b { x } else { y }
-}
-
-pub fn pick32(b: bool, x: u32, y: u32) -> u32
-    ensures { λ r. ⌜ r ≡ cond b x y ⌝ }
-{
-    if b { x } else { y }
-}
 
 // The record of a record's cell: what its kind does not use is 0.
 pub fn plain(r: Record) -> Record
@@ -25,12 +12,12 @@ pub fn plain(r: Record) -> Record
     let known = logic::both(1 <= r.kind, r.kind <= 8);
     let no_b = logic::either(r.kind == 1, logic::both(3 <= r.kind, r.kind <= 4));
     Record {
-        kind: pick8(known, r.kind, 9),
-        flags: pick8(known, 0, r.flags % 2 + r.flags / 2 % 2 * 2),
+        kind: logic::pick8(known, r.kind, 9),
+        flags: logic::pick8(known, 0, r.flags % 2 + r.flags / 2 % 2 * 2),
         bit: r.bit,
         a: r.a,
-        b: pick32(no_b, 0, r.b),
-        c: pick32(r.kind == 8, r.c, 0),
+        b: logic::pick32(no_b, 0, r.b),
+        c: logic::pick32(r.kind == 8, r.c, 0),
     }
 }
 
@@ -38,13 +25,13 @@ pub fn plain(r: Record) -> Record
 pub fn net_a(r: Record) -> Net
     ensures { λ x. ⌜ x ≡ netA r ⌝ }
 {
-    Net(pick32(r.kind == 1, 0, r.a))
+    Net(logic::pick32(r.kind == 1, 0, r.a))
 }
 
 pub fn net_b(r: Record) -> Net
     ensures { λ x. ⌜ x ≡ netB r ⌝ }
 {
-    Net(pick32(r.kind == 2, 0, r.b))
+    Net(logic::pick32(r.kind == 2, 0, r.b))
 }
 
 // Such a record with other nets.
@@ -55,8 +42,8 @@ pub fn with_nets(r: Record, a: Net, b: Net, c: Net) -> Record
         kind: r.kind,
         flags: r.flags,
         bit: r.bit,
-        a: pick32(r.kind == 1, r.a, a.0),
-        b: pick32(r.kind == 2, r.b, b.0),
+        a: logic::pick32(r.kind == 1, r.a, a.0),
+        b: logic::pick32(r.kind == 2, r.b, b.0),
         c: c.0,
     }
 }

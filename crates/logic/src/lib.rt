@@ -1,6 +1,6 @@
 // Levels: zero, one and undefined, and the operations on them. After netlist/src/logic.rs.
 ghost use mathlib.Core.Path.{_≡_};
-ghost use mathlib.Core.Bool.{_&&_, _||_};
+ghost use mathlib.Core.Bool.{_&&_, _||_, cond};
 ghost use Rattle.logic.specs.Levels.{notLevel, andLevel, orLevel, xorLevel, muxLevel, eqLevel, byteOf, levelOf};
 
 pub enum Trit {
@@ -133,4 +133,17 @@ pub fn either(a: bool, b: bool) -> bool
         return true;
     }
     b
+}
+
+// One of two numbers, likewise.
+pub fn pick8(b: bool, x: u8, y: u8) -> u8
+    ensures { λ r. ⌜ r ≡ cond b x y ⌝ }
+{
+    if b { x } else { y }
+}
+
+pub fn pick32(b: bool, x: u32, y: u32) -> u32
+    ensures { λ r. ⌜ r ≡ cond b x y ⌝ }
+{
+    if b { x } else { y }
 }

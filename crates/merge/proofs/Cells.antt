@@ -1,9 +1,9 @@
 -- The bits of a cell, and their keys. Assumes nothing.
 use mathlib.Core.Path.{_≡_, refl, sym, ap, _∙_, subst}
 use mathlib.Core.Bool.{Bool, true, false, cond}
-use mathlib.Core.List.{List, [], _∷_, _++_}
-use mathlib.Core.Logic.{inl, inr}
-use Prim.Native.Nat.{ℕ, zero, suc, _+_, _-_, _*_, _≤_, _<_}
+use mathlib.Core.List.{List}
+use mathlib.Core.Logic.{inl}
+use Prim.Native.Nat.{ℕ, suc, _+_, _-_, _*_, _≤_, _<_}
 use native.Mathlib.Omega.{arith}
 use native.Mathlib.Numerals.{add-one}
 use native.Mathlib.Decide.{decLt}
@@ -12,17 +12,14 @@ use lib.ListN.{length, getD, drop, drop-of-length-le}
 use lib.Seq.{drop-cons}
 use borrow.Author.Tests.{eq-eqb, ne-eqb}
 use Rattle.value.specs.declared.Net.{Net}
-use Rattle.value.specs.declared.ControlNet.{ControlNet}
-use Rattle.value.specs.declared.ControlNet.the-variants.{Pos, Neg}
 use Rattle.value.specs.Value.{netAt}
 use Rattle.cell.specs.declared.Record.{Record}
 use Rattle.cell.specs.declared.Cell.{Cell}
-use Rattle.cell.specs.declared.Cell.the-variants.{Input, Output, Buf, Not, And, Or, Xor, Mux, Aig}
 use Rattle.cell.specs.Records.{cellOf, cellRecord}
 use Rattle.netlist.specs.Areas.{wordRecord, storeWords, Within}
 use Rattle.netlist.specs.Netlist.{run}
-use Rattle.netlist.proofs.Frames.{within-none, within-then, within-wider, tabulate-same, record-kept, records-kept}
-use Rattle.netlist.proofs.Areas.{Sized, store-within, stored-other, stored-same}
+use Rattle.netlist.proofs.Frames.{within-none, within-then, within-wider, tabulate-same, record-kept}
+use Rattle.netlist.proofs.Areas.{store-within, stored-other, stored-same}
 use Rattle.netlist.specs.Shape.{visitMut}
 use Rattle.design.specs.Queue.{mapNetNew}
 use Rattle.design.specs.Fields.{renamedFields}
@@ -30,6 +27,7 @@ use Rattle.design.specs.Words.{netlistIn, replacedIn}
 use Rattle.design.proofs.Visiting.{renamed-cell}
 use Rattle.design.proofs.Applying.{replaced-zero}
 use Rattle.design.proofs.Words.{bits-length, bit-at}
+use Rattle.numberer.proofs.Records.{cell-sized}
 use Rattle.merge.specs.Merge.{keyOf}
 use Rattle.merge.specs.Words.{keyFields, keyIn, Keys, widthOf}
 use Rattle.merge.proofs.Keys.{key-fields}
@@ -70,22 +68,6 @@ module _ (n : ℕ) (ws : List ℕ) (s e : ℕ) (g : Ending n ws (s + 1) e) where
   ending-all h =
       let past : length (netlistIn n ws .bits) ≤ e = omega (arith, bits-length n ws) in
       ended (ap run (drop-of-length-le (netlistIn n ws .bits) past))
-
--- a cell's record fits into its words
-pub cell-sized : (b : ℕ) (c : Cell) → b < 65536 → Sized (cellRecord b c)
-unfolding cellRecord
-cell-sized b (Input l) h = record { kind = omega arith; flags = omega arith; bit = h }
-cell-sized b (Output x l) h = record { kind = omega arith; flags = omega arith; bit = h }
-cell-sized b (Buf x) h = record { kind = omega arith; flags = omega arith; bit = h }
-cell-sized b (Not x) h = record { kind = omega arith; flags = omega arith; bit = h }
-cell-sized b (And x y) h = record { kind = omega arith; flags = omega arith; bit = h }
-cell-sized b (Or x y) h = record { kind = omega arith; flags = omega arith; bit = h }
-cell-sized b (Xor x y) h = record { kind = omega arith; flags = omega arith; bit = h }
-cell-sized b (Mux x y z) h = record { kind = omega arith; flags = omega arith; bit = h }
-cell-sized b (Aig (Pos x) (Pos y)) h = record { kind = omega arith; flags = omega arith; bit = h }
-cell-sized b (Aig (Pos x) (Neg y)) h = record { kind = omega arith; flags = omega arith; bit = h }
-cell-sized b (Aig (Neg x) (Pos y)) h = record { kind = omega arith; flags = omega arith; bit = h }
-cell-sized b (Aig (Neg x) (Neg y)) h = record { kind = omega arith; flags = omega arith; bit = h }
 
 -- stores behind the replaced nets
 module _ (from to n : ℕ) (ws ws′ : List ℕ) (far : 7168 ≤ from) (few : n ≤ 512) (w : Within from to ws ws′) where

@@ -1,16 +1,15 @@
 -- Keys by the fields of records. Assumes nothing.
-use mathlib.Core.Path.{_≡_, refl, sym, ap, _∙_}
+use mathlib.Core.Path.{_≡_, refl, sym}
 use mathlib.Core.Bool.{Bool, true, false, cond, not}
 use Prim.Native.Nat.{ℕ}
 use lib.Dec.{leb}
 use Rattle.value.specs.declared.Net.{Net}
 use Rattle.value.specs.declared.ControlNet.the-variants.{Pos, Neg}
 use Rattle.value.specs.Value.{leNet, leControl}
-use Rattle.cell.specs.declared.Record.{Record}
 use Rattle.cell.specs.declared.Cell.{Cell}
 use Rattle.cell.specs.declared.Cell.the-variants.{Input, Output, Buf, Not, And, Or, Xor, Mux, Aig}
 use Rattle.cell.specs.Records.{recordOf, cellRecord}
-use Rattle.merge.specs.Merge.{sorted, keyOf}
+use Rattle.merge.specs.Merge.{keyOf}
 use Rattle.merge.specs.Words.{turned, keyFields}
 
 module _ (bit : ℕ) where

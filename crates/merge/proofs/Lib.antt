@@ -1,7 +1,5 @@
 pub mod Keys
 pub mod Room
-pub mod Seeking
-pub mod Mixing
 pub mod Cells
 pub mod Numbering
 pub mod Merging

@@ -1,15 +1,13 @@
 -- The loop over the cells in their order. Assumes nothing.
-use mathlib.Core.Path.{_≡_, refl, sym, ap, ap₂, _∙_, subst}
-use mathlib.Core.Bool.{Bool, true, false, cond, not}
+use mathlib.Core.Path.{_≡_, refl, sym, ap, _∙_, subst}
+use mathlib.Core.Bool.{Bool, true, false}
 use mathlib.Core.List.{List, [], _∷_, _++_}
-use mathlib.Core.Logic.{inl, inr}
-use Prim.Native.Nat.{ℕ, zero, suc, _+_, _*_, _≤_, _<_}
+use mathlib.Core.Logic.{inl}
+use Prim.Native.Nat.{ℕ, zero, suc, _+_, _≤_, _<_}
 use native.Mathlib.Omega.{arith}
 use native.Mathlib.Numerals.{add-one}
 use native.Mathlib.Decide.{decLt}
-use lib.Dec.{eqb}
 use lib.ListN.{length, getD}
-use borrow.Author.Tests.{eq-eqb}
 use Rattle.cell.specs.declared.Cell.{Cell}
 use Rattle.cell.specs.Records.{cellOf}
 use Rattle.cell.specs.Tabulate.{tabulate}
@@ -17,15 +15,17 @@ use Rattle.cell.proofs.Lists.{tabulate-length, tabulate-at}
 use Rattle.netlist.specs.Areas.{wordRecord, recordsIn, wordsIn, orderAt, Within}
 use Rattle.netlist.specs.Shape.{hasEffects}
 use Rattle.netlist.specs.Netlist.{Netlist, netlistOf, cellIn, those}
-use Rattle.netlist.proofs.Frames.{within-none, within-then, within-wider, word-kept, words-kept, records-kept}
+use Rattle.netlist.proofs.Frames.{within-none, within-then, within-wider, words-kept, records-kept}
 use Rattle.order.specs.Orders.{iterCellsTopo}
-use Rattle.design.specs.Queue.{Design, netIn, unchanged, didChange}
+use Rattle.design.specs.Queue.{netIn, unchanged, didChange}
 use Rattle.design.specs.Compact.{compact}
 use Rattle.design.specs.Words.{netlistIn, replacedIn, designIn, appliedIn}
 use Rattle.design.proofs.Words.{cells-length, bits-length, cell-at}
 use Rattle.order.proofs.Bits.{those-append}
+use Rattle.numberer.specs.Words.{numbererIn}
+use Rattle.numberer.proofs.Inserting.{entered-none, mixed-none}
 use Rattle.merge.specs.Merge.{Merging, mergeCell, mergeCells, merging, merge}
-use Rattle.merge.specs.Words.{Sequenced, numbererIn, mergingIn, Entered, Ready, widthOf, Merges, looksFor, loadOf, sum, MergesNext, Ordered, MergesCells, MergesAll, MergesNetlist}
+use Rattle.merge.specs.Words.{Sequenced, mergingIn, Ready, widthOf, Merges, looksFor, loadOf, sum, MergesNext, Ordered, MergesCells, MergesAll, MergesNetlist}
 use Rattle.merge.proofs.Room.{Every, sum-more, order-starts, order-fits, order-short}
 
 -- one cell more
@@ -89,7 +89,7 @@ turning-none n count ws g = record {
   upto = omega arith;
   ordered = g;
   said = refl;
-  ready = record { long = g .long; few = g .few; entered = record { each = λ i l. absurd (omega arith) }; mixed = record { each = λ i l. absurd (omega arith) } };
+  ready = record { long = g .long; few = g .few; entered = entered-none ws; mixed = mixed-none ws };
   most = omega arith;
   frame = within-none 6144 15360 ws;
 }

@@ -1,144 +1,47 @@
 -- Keys found or entered. Assumes nothing.
-use mathlib.Core.Path.{_≡_, refl, sym, ap, ap₂, _∙_, subst}
+use mathlib.Core.Path.{_≡_, refl, sym, ap, _∙_, subst}
 use mathlib.Core.List.{List, [], _∷_, _++_, map}
-use mathlib.Core.Logic.{_⊎_, inl, inr, ⊎-elim}
-use Prim.Native.Nat.{ℕ, zero, suc, _+_, _-_, _*_, _≤_, _<_}
+use mathlib.Core.Logic.{_⊎_, inl, inr}
+use Prim.Native.Nat.{ℕ, suc, _+_, _-_, _*_, _≤_, _<_}
 use native.Mathlib.Omega.{arith}
-use native.Mathlib.Numerals.{add-one}
-use native.Mathlib.Decide.{decLt}
-use lib.ListN.{length, getD, set}
-use lib.Seq.{getD-set-same}
+use lib.ListN.{length, set}
 use Rattle.value.specs.declared.Net.{Net}
-use Rattle.value.specs.declared.ControlNet.{ControlNet}
 use Rattle.cell.specs.declared.Record.{Record}
 use Rattle.cell.specs.declared.Cell.{Cell}
-use Rattle.cell.specs.declared.Cell.the-variants.{Input, Output, Buf, Not, And, Or, Xor, Mux, Aig}
 use Rattle.cell.specs.Records.{cellOf, cellRecord}
 use Rattle.cell.specs.Tabulate.{tabulate}
 use Rattle.cell.proofs.RoundTrips.{cell-back}
-use Rattle.netlist.specs.Areas.{wordRecord, storeWords, recordsIn, Within}
+use Rattle.netlist.specs.Areas.{wordRecord, storeWords, Within}
 use Rattle.netlist.specs.Shape.{visitMut}
-use Rattle.netlist.specs.Netlist.{netlistOf, cellIn, run, outputOf}
-use Rattle.netlist.proofs.Frames.{within-none, within-then, within-wider, within-set, tabulate-same, word-kept, record-kept, records-kept}
-use Rattle.netlist.proofs.Areas.{Sized, store-within, stored-other, stored-same}
+use Rattle.netlist.specs.Netlist.{cellIn, outputOf}
+use Rattle.netlist.proofs.Frames.{within-none, within-then, within-wider, tabulate-same, record-kept, records-kept}
 use Rattle.design.specs.declared.Found.{Found}
 use Rattle.design.specs.declared.Found.the-variants.{Nothing, At}
-use Rattle.design.specs.Queue.{Design, Entry, netIn, mapNetNew, replaceNet, seek}
+use Rattle.design.specs.Queue.{mapNetNew, seek}
 use Rattle.design.specs.Words.{netlistIn, replacedIn, designIn}
+use Rattle.numberer.specs.Words.{numbererIn, IsCell, mixOf, Inserts}
+use Rattle.numberer.proofs.Records.{is-cell}
+use Rattle.numberer.proofs.Inserting.{numberer-stays, entered-stays, mixed-stays, inserts}
 use Rattle.merge.specs.Merge.{Merging, keyOf, numbered, findOrInsert, mergeCell}
-use Rattle.merge.specs.Words.{entryOf, numbererIn, mergingIn, keyIn, keyAt, IsCell, Entered, mixOf, MixedAt, Mixed, Ready, Keyed, Keys, Numbers, NumbersAll, widthOf, Merges}
+use Rattle.merge.specs.Words.{mergingIn, keyIn, keyAt, Ready, Keyed, Keys, Numbers, NumbersAll, widthOf, Merges}
 use Rattle.design.proofs.Words.{cell-at}
 use Rattle.design.proofs.Lists.{map-table}
-use Rattle.merge.proofs.Cells.{cell-sized, replaced-stays}
+use Rattle.merge.proofs.Cells.{replaced-stays}
 
--- records of cells
-pub bit-of : (b : ℕ) (c : Cell) → cellRecord b c .bit ≡ b
-unfolding cellRecord
-bit-of b (Input l) = refl
-bit-of b (Output x l) = refl
-bit-of b (Buf x) = refl
-bit-of b (Not x) = refl
-bit-of b (And x y) = refl
-bit-of b (Or x y) = refl
-bit-of b (Xor x y) = refl
-bit-of b (Mux x y z) = refl
-bit-of b (Aig p q) = refl
-
-pub is-cell : (r : Record) (b : ℕ) (c : Cell) → r ≡ cellRecord b c → IsCell r
-is-cell r b c e =
-    record { back = e ∙ sym (ap₂ cellRecord (ap (λ (x : Record). x .bit) e ∙ bit-of b c) (ap cellOf e ∙ cell-back b c)) }
-
--- the areas of merging after a store into others
-module _ (from to : ℕ) (ws ws′ : List ℕ) (w : Within from to ws ws′) (k : ℕ) (apart : (to ≤ 9216) ⊎ (9216 + k * 4 ≤ from)) where
-  entry-stays : (i : ℕ) → i < k → wordRecord ws′ (2304 + i) ≡ wordRecord ws (2304 + i)
-  entry-stays i l = record-kept from to ws ws′ w (2304 + i) (⊎-elim (λ h. inr (omega arith)) (λ h. inl (omega arith)) apart)
-
-  pub numberer-stays : numbererIn k ws′ ≡ numbererIn k ws
-  unfolding numbererIn
-  numberer-stays =
-      tabulate-same (λ i. entryOf (wordRecord ws′ (2304 + i))) (λ i. entryOf (wordRecord ws (2304 + i))) k (λ i l. ap entryOf (entry-stays i l))
-
-  pub entered-stays : Entered k ws → Entered k ws′
-  entered-stays en = record { each = λ i l. subst IsCell (sym (entry-stays i l)) (en .each i l) }
-
--- and the numbers of the keys
-pub mixed-stays : (from to : ℕ) (ws ws′ : List ℕ) → Within from to ws ws′ → (k : ℕ) → k ≤ 1024 → (to ≤ 8192) ⊎ (9216 + k * 4 ≤ from) → Mixed k ws → Mixed k ws′
-mixed-stays from to ws ws′ w k few apart m = record { each = λ i l. word i l ∙ m .each i l ∙ sym (ap mixOf (key i l)) }
-  where
-    key : (i : ℕ) → i < k → wordRecord ws′ (2304 + i) ≡ wordRecord ws (2304 + i)
-    key i l = record-kept from to ws ws′ w (2304 + i) (⊎-elim (λ h. inr (omega arith)) (λ h. inl (omega arith)) apart)
-
-    word : (i : ℕ) → i < k → getD ws′ (8192 + i) 0 ≡ getD ws (8192 + i) 0
-    word i l = word-kept from to ws ws′ w (8192 + i) (⊎-elim (λ h. inr (omega arith)) (λ h. inl (omega arith)) apart)
-
+-- the design after a store behind the replaced nets
 pub design-stays : (from to n : ℕ) (ws ws′ : List ℕ) → 7168 ≤ from → n ≤ 512 → Within from to ws ws′ → designIn n ws′ ≡ designIn n ws
 unfolding designIn
 design-stays from to n ws ws′ far few w =
     rw (replaced-stays from to n ws ws′ far few w, records-kept from to ws ws′ w n (omega arith))
 
--- one more key, and its number
-module _ (ws : List ℕ) (k : ℕ) (key : Record) (s : ℕ) (c : Cell) (key-is : key ≡ cellRecord s c) (ws′ : List ℕ)
-    (put : ws′ ≡ set (storeWords ws (2304 + k) key) (8192 + k) (mixOf key)) (long : 16384 ≤ length ws) (room : k < 1024) (small : s < 65536) where
-  abbrev between : List ℕ
-  between = storeWords ws (2304 + k) key
-
-  within-store : Within ((2304 + k) * 4) ((2304 + k) * 4 + 4) ws between
-  within-store = store-within ws (2304 + k) key
-
-  within-put : Within (8192 + k) (8192 + k + 1) between ws′
-  within-put =
-      subst (λ (vs : List ℕ). Within (8192 + k) (8192 + k + 1) between vs) (sym put)
-      (within-set (8192 + k) (8192 + k + 1) between (8192 + k) (mixOf key) (omega arith) (omega arith))
-
-  pub insert-within : Within 8192 13312 ws ws′
-  insert-within =
-      within-then 8192 13312 ws between ws′
-      (within-wider ((2304 + k) * 4) ((2304 + k) * 4 + 4) 8192 13312 ws between (omega arith) (omega arith) within-store)
-      (within-wider (8192 + k) (8192 + k + 1) 8192 13312 between ws′ (omega arith) (omega arith) within-put)
-
-  key-stays : (i : ℕ) → wordRecord ws′ (2304 + i) ≡ wordRecord between (2304 + i)
-  key-stays i = record-kept (8192 + k) (8192 + k + 1) between ws′ within-put (2304 + i) (inr (omega arith))
-
-  key-there : wordRecord ws′ (2304 + k) ≡ key
-  key-there = key-stays k ∙ stored-same ws (2304 + k) key (omega arith) (subst Sized (sym key-is) (cell-sized s c small))
-
-  key-before : (i : ℕ) → i < k → wordRecord ws′ (2304 + i) ≡ wordRecord ws (2304 + i)
-  key-before i l = key-stays i ∙ stored-other ws (2304 + k) key (2304 + i) (λ e. absurd (omega arith))
-
-  pub insert-numberer : numbererIn (k + 1) ws′ ≡ numbererIn k ws ++ ((c, netIn s) ∷ [])
-  unfolding numbererIn tabulate
-  insert-numberer =
-      rw (
-        add-one k,
-        tabulate-same (λ i. entryOf (wordRecord ws′ (2304 + i))) (λ i. entryOf (wordRecord ws (2304 + i))) k (λ i l. ap entryOf (key-before i l)),
-        key-there,
-        key-is,
-        cell-back s c,
-        bit-of s c,
-      )
-
-  pub insert-entered : Entered k ws → Entered (k + 1) ws′
-  insert-entered en = record { each = λ i l. go i l (decLt i k) }
-    where
-      go : (i : ℕ) → i < k + 1 → Dec (i < k) → IsCell (wordRecord ws′ (2304 + i))
-      go i l (yes m) = subst IsCell (sym (key-before i m)) (en .each i m)
-      go i l (no m) =
-          let q : k ≡ i = omega arith in
-          subst (λ (j : ℕ). IsCell (wordRecord ws′ (2304 + j))) q (is-cell (wordRecord ws′ (2304 + k)) s c (key-there ∙ key-is))
-
-  pub insert-mixed : Mixed k ws → Mixed (k + 1) ws′
-  insert-mixed mx = record { each = λ i l. go i l (decLt i k) }
-    where
-      go : (i : ℕ) → i < k + 1 → Dec (i < k) → MixedAt i ws′
-      go i l (yes m) =
-          word-kept (8192 + k) (8192 + k + 1) between ws′ within-put (8192 + i) (inl (omega arith))
-          ∙ word-kept ((2304 + k) * 4) ((2304 + k) * 4 + 4) ws between within-store (8192 + i) (inl (omega arith))
-          ∙ mx .each i m ∙ sym (ap mixOf (key-before i m))
-      go i l (no m) =
-          let q : k ≡ i = omega arith in
-          subst (λ (j : ℕ). MixedAt j ws′) q
-          (ap (λ (vs : List ℕ). getD vs (8192 + k) 0) put
-          ∙ getD-set-same between (8192 + k) (mixOf key) 0 (omega (arith, within-store .same)) ∙ sym (ap mixOf key-there))
+-- what merging asks after a store that the numberer is not in
+ready-stays : (from to : ℕ) (ws ws′ : List ℕ) → Within from to ws ws′ → (k : ℕ) → (to ≤ 8192) ⊎ (9216 + k * 4 ≤ from) → (n : ℕ) → Ready n k ws → Ready n k ws′
+ready-stays from to ws ws′ w k apart n g = record {
+  long = omega (arith, g .long, w .same);
+  few = g .few;
+  entered = entered-stays from to ws ws′ w k apart (g .entered);
+  mixed = mixed-stays from to ws ws′ w k apart (g .mixed);
+}
 
 -- `find_or_insert`
 module _ (ws : List ℕ) (s : ℕ) (keyed : Keyed s (s + 1) ws) (key : Record) (key-is : key ≡ wordRecord ws (3328 + s)) where
@@ -157,21 +60,15 @@ module _ (ws : List ℕ) (s : ℕ) (keyed : Keyed s (s + 1) ws) (key : Record) (
     numbered-by d e =
         ap (numbered (mergingIn n k ws) (keyAt ws s) s) (ap (seek (numbererIn k ws)) (sym key-cell) ∙ sym v-is ∙ e)
 
-    pub numbers-found : k < 1024 → (x : Net) → v ≡ At x → (ws′ : List ℕ) → replacedIn n ws′ ≡ set (replacedIn n ws) s x → Within 6144 7168 ws ws′ → Numbers n k s ws ws′ k
+    pub numbers-found : (x : Net) → v ≡ At x → (ws′ : List ℕ) → replacedIn n ws′ ≡ set (replacedIn n ws) s x → Within 6144 7168 ws ws′ → Numbers n k s ws ws′ k
     unfolding mergingIn designIn
-    numbers-found room x e ws′ q w =
+    numbers-found x e ws′ q w =
         let few : n ≤ 512 = g .few in
-        let long : 16384 ≤ length ws = g .long in
         record {
           said =
               rw (q, records-kept 6144 7168 ws ws′ w n (omega arith), numberer-stays 6144 7168 ws ws′ w k (inl (omega arith)))
               (sym (numbered-by (At x) e));
-          ready = record {
-            long = omega (arith, w .same);
-            few = few;
-            entered = entered-stays 6144 7168 ws ws′ w k (inl (omega arith)) (g .entered);
-            mixed = mixed-stays 6144 7168 ws ws′ w k (omega arith) (inl (omega arith)) (g .mixed);
-          };
+          ready = ready-stays 6144 7168 ws ws′ w k (inl (omega arith)) n g;
           most = omega arith;
           frame = within-wider 6144 7168 6144 13312 ws ws′ (omega arith) (omega arith) w;
         }
@@ -181,22 +78,17 @@ module _ (ws : List ℕ) (s : ℕ) (keyed : Keyed s (s + 1) ws) (key : Record) (
     numbers-new ws′ put room small e =
         let few : n ≤ 512 = g .few in
         let long : 16384 ≤ length ws = g .long in
-        let w : Within 8192 13312 ws ws′ = insert-within ws k key s (keyAt ws s) key-of-slot ws′ put long room (omega arith) in
+        let q : Inserts k s (keyAt ws s) ws ws′ = inserts ws k key s (keyAt ws s) key-of-slot ws′ put long room (omega arith) in
         record {
-          said =
-              rw (
-                design-stays 8192 13312 n ws ws′ (omega arith) few w,
-                insert-numberer ws k key s (keyAt ws s) key-of-slot ws′ put long room (omega arith),
-              )
-              (sym (numbered-by Nothing e));
+          said = rw (design-stays 8192 13312 n ws ws′ (omega arith) few (q .frame), q .said) (sym (numbered-by Nothing e));
           ready = record {
-            long = omega (arith, w .same);
+            long = omega (arith, q .frame .same);
             few = few;
-            entered = insert-entered ws k key s (keyAt ws s) key-of-slot ws′ put long room (omega arith) (g .entered);
-            mixed = insert-mixed ws k key s (keyAt ws s) key-of-slot ws′ put long room (omega arith) (g .mixed);
+            entered = q .entered (g .entered);
+            mixed = q .mixed (g .mixed);
           };
           most = omega arith;
-          frame = within-wider 8192 13312 6144 13312 ws ws′ (omega arith) (omega arith) w;
+          frame = within-wider 8192 13312 6144 13312 ws ws′ (omega arith) (omega arith) (q .frame);
         }
 
 -- the loop of `find_or_insert_all`: one key after another
@@ -287,9 +179,7 @@ module _ (n s e : ℕ) (ws ws₁ : List ℕ) (q : Keys n s e ws ws₁) where
   keys-keyed = record { each = λ j a b. q .each j a b ∙ ap (cellRecord j) (sym (ap cellOf (q .each j a b) ∙ cell-back j (keyIn n ws j))) }
 
   pub keys-ready : (k : ℕ) → Ready n k ws → k + widthOf (netlistIn n ws .bits) s ≤ 1024 → Ready n k ws₁
-  keys-ready k g r =
-      let long : 16384 ≤ length ws = g .long in
-      record { long = omega (arith, q .frame .same); few = g .few; entered = entered-stays 13312 15360 ws ws₁ (q .frame) k (inr (omega arith)) (g .entered); mixed = mixed-stays 13312 15360 ws ws₁ (q .frame) k (omega arith) (inr (omega arith)) (g .mixed) }
+  keys-ready k g r = ready-stays 13312 15360 ws ws₁ (q .frame) k (inr (omega arith)) n g
 
   module _ (k : ℕ) (g : Ready n k ws) (e-is : e ≡ s + widthOf (netlistIn n ws .bits) s) (inside : e ≤ n) (r : k + widthOf (netlistIn n ws .bits) s ≤ 1024) where
     merging-same : mergingIn n k ws₁ ≡ mergingIn n k ws

@@ -1,5 +1,5 @@
 -- The cells of the order share no slot, so that their bits are no more than the slots. Assumes nothing.
-use mathlib.Core.Path.{_≡_, refl, sym, ap, _∙_, subst}
+use mathlib.Core.Path.{_≡_, refl, sym, ap, _∙_}
 use mathlib.Core.Bool.{Bool, true, false, cond, not, _||_, true≢false, false≢true}
 use mathlib.Core.List.{List, [], _∷_, _++_, map}
 use mathlib.Core.Logic.{_⊎_, inl, inr, ⊎-elim}
@@ -12,13 +12,11 @@ use lib.ListN.{length, getD, set, drop, replicate, List·getD-eq-default}
 use borrow.Author.Tests.{eqb-true, eq-eqb}
 use Rattle.cell.specs.declared.Cell.{Cell}
 use Rattle.cell.specs.declared.Cell.the-variants.{Input, Output, Buf, Not, And, Or, Xor, Mux, Aig}
-use Rattle.value.specs.declared.Net.{Net}
-use Rattle.value.specs.declared.ControlNet.{ControlNet}
 use Rattle.cell.specs.Tabulate.{tabulate}
 use Rattle.cell.proofs.Lists.{tabulate-length}
 use Rattle.netlist.specs.Shape.{visit, isInput, isOutput, hasEffects}
 use Rattle.netlist.specs.Netlist.{Netlist, cellIn, slots, those, anyOf, joined, sources, startOf, run, outputOf, iterCells, cellDeps}
-use Rattle.order.specs.Walk.{Walk, isVisited, mark, push, each, down, walk, walkFrom, fresh}
+use Rattle.order.specs.Walk.{Walk, isVisited, mark, each, down, walk, walkFrom, fresh}
 use Rattle.order.specs.Orders.{emit, iterCellsTopo}
 use Rattle.merge.specs.Words.{Sequenced, widthOf, loadOf, sum}
 

@@ -2,9 +2,6 @@
 use mathlib.Core.Bool.{Bool, cond, not}
 use mathlib.Core.List.{List, [], _∷_, _++_, map}
 use Prim.Native.Nat.{ℕ}
-use lib.ListN.{length}
-use Rattle.value.specs.declared.Net.{Net}
-use Rattle.value.specs.declared.ControlNet.{ControlNet}
 use Rattle.value.specs.Value.{leNet, leControl}
 use Rattle.cell.specs.declared.Cell.{Cell}
 use Rattle.cell.specs.declared.Cell.the-variants.{Input, Output, Buf, Not, And, Or, Xor, Mux, Aig}

@@ -4,7 +4,7 @@ use mathlib.Core.Path.{_≡_}
 use mathlib.Core.Bool.{Bool, cond, not, _&&_, _||_}
 use mathlib.Core.List.{List, [], _∷_}
 use mathlib.Core.Logic.{_⊎_}
-use Prim.Native.Nat.{ℕ, suc, _+_, _-_, _*_, _%_, _≤_, _<_}
+use Prim.Native.Nat.{ℕ, suc, _+_, _-_, _≤_, _<_}
 use lib.Dec.{eqb, leb}
 use lib.ListN.{length, getD, drop}
 use Rattle.cell.specs.declared.Record.{Record}
@@ -14,9 +14,10 @@ use Rattle.cell.specs.Tabulate.{tabulate}
 use Rattle.netlist.specs.Areas.{wordRecord, recordsIn, wordsIn, orderAt, Within}
 use Rattle.netlist.specs.Shape.{visitMut, hasEffects}
 use Rattle.netlist.specs.Netlist.{Netlist, cellIn, those, run}
-use Rattle.design.specs.Queue.{Entry, netIn, mapNetNew, seek}
+use Rattle.design.specs.Queue.{mapNetNew, seek}
 use Rattle.design.specs.Compact.{compact}
 use Rattle.design.specs.Words.{netlistIn, replacedIn, designIn}
+use Rattle.numberer.specs.Words.{numbererIn, Entered, Mixed}
 use Rattle.merge.specs.Merge.{Merging, keyOf, numbered, findOrInsert, mergeCell, mergeCells, merging, merge}
 
 -- the bits of a cell are numbered from 0, slot after slot
@@ -32,28 +33,11 @@ unfoldable pub keyFields : ℕ → Record → Record
 keyFields bit r =
     recordOf (r .kind) (cond (eqb (r .flags) 1) 2 (r .flags)) bit (cond (turned r) (r .b) (r .a)) (cond (turned r) (r .a) (r .b)) (r .c)
 
--- a number that equal keys have in common; it does not look at the bit
-unfoldable pub mixOf : Record → ℕ
-mixOf r = r .a % 2048 + 2048 * (r .b % 2048 + 2048 * (r .kind % 16 + 16 * (r .flags % 4 + 4 * (r .c % 16))))
-
--- keys stand as records whose bit is the slot of the cell, four words each: those of the numberer from word 9216 on, and those of a
--- cell that is being merged from word 13312 on, at its slots
-abbrev pub numbererAt : ℕ
-numbererAt = 2304
-
+-- the keys of a cell that is being merged stand at its slots, four words each, from word 13312 on
 abbrev pub keysAt : ℕ
 keysAt = 3328
 
--- the numbers of the numberer's keys
-abbrev pub mixesAt : ℕ
-mixesAt = 8192
-
-abbrev pub entryOf : Record → Entry
-entryOf r = (cellOf r, netIn (r .bit))
-
-unfoldable pub numbererIn : ℕ → List ℕ → List Entry
-numbererIn k ws = tabulate (λ i. entryOf (wordRecord ws (numbererAt + i))) k
-
+-- n slots and k entries of the numberer
 unfoldable pub mergingIn : ℕ → ℕ → List ℕ → Merging
 mergingIn n k ws = record { design = designIn n ws; numberer = numbererIn k ws }
 
@@ -63,25 +47,6 @@ keyIn n ws s = keyOf (visitMut (mapNetNew (replacedIn n ws)) (cellOf (wordRecord
 
 unfoldable pub keyAt : List ℕ → ℕ → Cell
 keyAt ws s = cellOf (wordRecord ws (keysAt + s))
-
--- a record is a cell's
-pub record IsCell (r : Record) : Type 0 where
-  pub back : r ≡ cellRecord (r .bit) (cellOf r)
-
--- k keys are entered
-pub record Entered (k : ℕ) (ws : List ℕ) : Type 0 where
-  pub each : (i : ℕ) → i < k → IsCell (wordRecord ws (numbererAt + i))
-
--- and their numbers
-abbrev pub MixedAt : ℕ → List ℕ → Type 0
-MixedAt i ws = getD ws (mixesAt + i) 0 ≡ mixOf (wordRecord ws (numbererAt + i))
-
-pub record Mixed (k : ℕ) (ws : List ℕ) : Type 0 where
-  pub each : (i : ℕ) → i < k → MixedAt i ws
-
--- a count that is 0 only if none of the keys has a number
-pub record Counts (k x : ℕ) (ws : List ℕ) (r : ℕ) : Type 0 where
-  pub none : r ≡ 0 → (i : ℕ) → i < k → getD ws (mixesAt + i) 0 ≡ x → ⊥
 
 -- what merging asks
 pub record Ready (n k : ℕ) (ws : List ℕ) : Type 0 where

@@ -1,26 +1,18 @@
-// Merging of equal cells, after generic/src/merge.rs. The keys that were looked for and not found stand in an area of the work slice, each
-// as a record whose bit is the slot of the cell.
+// Merging of equal cells, after generic/src/merge.rs. The keys that were looked for and not found are the numberer's.
 use cell::Record;
 use design::Found;
 use design::visit;
-use value::Net;
 use value::Slot;
 ghost use mathlib.Core.Path.{_≡_};
 ghost use Prim.Native.Nat.{_+_, _-_, _≤_, _<_};
-ghost use lib.ListN.{length, set};
-ghost use Rattle.cell.specs.Records.{cellOf, cellRecord};
-ghost use Rattle.netlist.specs.Areas.{wordRecord, storeWords};
-ghost use Rattle.design.specs.Queue.{eqRecord, seek};
+ghost use lib.ListN.{length};
+ghost use Rattle.cell.specs.Records.{cellRecord};
+ghost use Rattle.netlist.specs.Areas.{storeWords};
 ghost use Rattle.design.specs.Words.{netlistIn};
-ghost use Rattle.merge.specs.Words.{turned, keyFields, mixOf, keysAt, numbererAt, mixesAt, numbererIn, keyIn, IsCell, Entered, MixedAt, Mixed, Counts, Ready, Keyed, Keys, Numbers, NumbersAll, Merges, widthOf, loadOf, MergesNext, Sequenced, Ordered, MergesCells, MergesAll, MergesNetlist};
+ghost use Rattle.merge.specs.Words.{turned, keyFields, keysAt, keyIn, Ready, Keyed, Keys, Numbers, NumbersAll, Merges, widthOf, loadOf, MergesNext, Sequenced, Ordered, MergesCells, MergesAll, MergesNetlist};
 
-// Where the numberer's keys stand, and those of a cell that is being merged, as slots of four words.
-const NUMBERER: u32 = 2304;
-
+// Where the keys of a cell that is being merged stand, as slots of four words.
 const KEYS: u32 = 3328;
-
-// Where the mixes of the numberer's keys stand, a word each.
-const MIXES: usize = 8192;
 
 const ORDER: usize = 5120;
 
@@ -40,10 +32,10 @@ fn key_record(bit: u16, r: Record) -> Record
     let turned = is_turned(r);
     Record {
         kind: r.kind,
-        flags: visit::pick8(r.flags == 1, 2, r.flags),
+        flags: logic::pick8(r.flags == 1, 2, r.flags),
         bit,
-        a: visit::pick32(turned, r.b, r.a),
-        b: visit::pick32(turned, r.a, r.b),
+        a: logic::pick32(turned, r.b, r.a),
+        b: logic::pick32(turned, r.a, r.b),
         c: r.c,
     }
 }
@@ -89,99 +81,6 @@ fn put_keys(work: &mut [u32], n: u32, s: Slot, e: u32)
     }
 }
 
-fn same_key(x: Record, y: Record) -> bool
-    ensures { λ r. ⌜ r ≡ eqRecord x y ⌝ }
-{
-    if x.a == y.a {
-        let heads = logic::both(x.kind == y.kind, x.flags == y.flags);
-        return logic::both(logic::both(heads, x.b == y.b), x.c == y.c);
-    }
-    false
-}
-
-// A number that equal keys have in common. One comparison of it tells most keys apart.
-fn mix(r: Record) -> u32
-    ensures { λ x. ⌜ x ≡ mixOf r ⌝ }
-{
-    let rest = (r.flags as u32) % 4 + 4 * (r.c % 16);
-    r.a % 2048 + 2048 * (r.b % 2048 + 2048 * ((r.kind as u32) % 16 + 16 * rest))
-}
-
-// How many of the first k entries have a mix; what stands behind them is counted too, up to a multiple of 16. Since it does not stop at
-// the first and has a whole number of rounds, it takes several entries at a time.
-fn count_mix(work: &[u32], k: u32, x: u32) -> u32
-    requires { ⌜ 16384 ≤ length (now work) ⌝ }
-    requires { ⌜ k ≤ 1024 ⌝ }
-    ensures { λ r. ⌜ Counts k x (now (work .entry)) r ⌝ }
-{
-    let end = (k as usize + 15) / 16 * 16;
-    let mut i: usize = 0;
-    let mut count: u32 = 0;
-    while i < end {
-        count += visit::pick32(work[MIXES + i] == x, 1, 0);
-        i += 1;
-    }
-    count
-}
-
-// Whether an entry has a key, whose mix is x.
-fn same_at(work: &[u32], i: u32, key: Record, x: u32) -> bool
-    requires { ⌜ i < 1024 ⌝ }
-    requires { ⌜ MixedAt i (now work) ⌝ }
-    requires { ⌜ x ≡ mixOf key ⌝ }
-    ensures { λ r. ⌜ r ≡ eqRecord (wordRecord (now (work .entry)) (numbererAt + i)) key ⌝ }
-{
-    if cell::word(work, MIXES + (i as usize)) == x {
-        return same_key(netlist::record_in(work, Slot(NUMBERER + i)), key);
-    }
-    false
-}
-
-// Looks for a key, whose mix is x, from the first entry on.
-fn find_first(work: &[u32], k: u32, key: Record, x: u32) -> Found
-    requires { ⌜ k ≤ 1024 ⌝ }
-    requires { ⌜ Entered k (now work) ⌝ }
-    requires { ⌜ Mixed k (now work) ⌝ }
-    requires { ⌜ IsCell key ⌝ }
-    requires { ⌜ x ≡ mixOf key ⌝ }
-    ensures { λ r. ⌜ r ≡ seek (numbererIn k (now (work .entry))) (cellOf key) ⌝ }
-{
-    let mut i: u32 = 0;
-    while i < k {
-        if same_at(work, i, key, x) {
-            let r = netlist::record_in(work, Slot(NUMBERER + i));
-            return Found::At(Net::from_cell_index(Slot(r.bit as u32)));
-        }
-        i += 1;
-    }
-    Found::Nothing
-}
-
-// Looks for a key.
-pub fn find(work: &[u32], k: u32, key: Record) -> Found
-    requires { ⌜ 16384 ≤ length (now work) ⌝ }
-    requires { ⌜ k ≤ 1024 ⌝ }
-    requires { ⌜ Entered k (now work) ⌝ }
-    requires { ⌜ Mixed k (now work) ⌝ }
-    requires { ⌜ IsCell key ⌝ }
-    ensures { λ r. ⌜ r ≡ seek (numbererIn k (now (work .entry))) (cellOf key) ⌝ }
-{
-    let x = mix(key);
-    if count_mix(work, k, x) == 0 {
-        return Found::Nothing;
-    }
-    find_first(work, k, key, x)
-}
-
-// Enters a key behind the first k.
-pub fn insert(work: &mut [u32], k: u32, key: Record)
-    requires { ⌜ k < 1024 ⌝ }
-    ensures { λ _. ⌜ now (work .exit) ≡ set (storeWords (now (work .entry)) (numbererAt + k) key) (mixesAt + k) (mixOf key) ⌝ }
-{
-    netlist::put_record(work, Slot(NUMBERER + k), key);
-    cell::put(work, MIXES + (k as usize), mix(key));
-}
-
 // Looks for the key in a slot's place: the slot's net is replaced by the net that has it, or the key is entered for it.
 fn find_or_insert(work: &mut [u32], n: u32, k: u32, s: Slot) -> u32
     requires { ⌜ Ready n k (now work) ⌝ }
@@ -191,13 +90,13 @@ fn find_or_insert(work: &mut [u32], n: u32, k: u32, s: Slot) -> u32
     ensures { λ r. ⌜ Numbers n k (s .0) (now (work .entry)) (now (work .exit)) r ⌝ }
 {
     let key = netlist::record_in(work, Slot(KEYS + s.0));
-    match find(work, k, key) {
+    match numberer::find(work, k, key) {
         Found::At(x) => {
             design::queue::replace_net(work, n, s, x);
             k
         }
         Found::Nothing => {
-            insert(work, k, key);
+            numberer::insert(work, k, key);
             k + 1
         }
     }

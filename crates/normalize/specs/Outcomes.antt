@@ -1,5 +1,5 @@
 -- Outcomes of rules and how tests are strung together. Assumes nothing: these are definitions.
-use mathlib.Core.Bool.{Bool, cond}
+use mathlib.Core.Bool.{Bool, true, false, cond}
 use Rattle.value.specs.declared.Net.{Net}
 use Rattle.value.specs.declared.ControlNet.{ControlNet}
 use Rattle.value.specs.declared.ControlNet.the-variants.{Pos, Neg}
@@ -17,6 +17,15 @@ Form c orElse o = Form c
 Add c orElse o = Add c
 NotOf c orElse o = NotOf c
 AddNotOf c orElse o = AddNotOf c
+
+-- not `RewriteResult::None`
+abbrev pub applies : Outcome → Bool
+applies None = false
+applies (Value n) = true
+applies (Form c) = true
+applies (Add c) = true
+applies (NotOf c) = true
+applies (AddNotOf c) = true
 
 -- `if test { return o; }`
 abbrev pub given : Bool → Outcome → Outcome

@@ -4,7 +4,7 @@ use value::ControlNet;
 use value::Net;
 ghost use mathlib.Core.Path.{_≡_};
 ghost use Rattle.value.specs.Value.{leNet, leControl};
-ghost use Rattle.normalize.specs.Outcomes.{_orElse_, given as givenOf, fromControl};
+ghost use Rattle.normalize.specs.Outcomes.{_orElse_, applies as appliesOf, given as givenOf, fromControl};
 ghost use Rattle.normalize.specs.Normalize.{exchanged, normalize as normalizeOf};
 
 // A rule adds a cell in three ways; metadata apart, the others are the Rust's own.
@@ -27,6 +27,20 @@ pub fn given(test: bool, o: Outcome) -> Outcome
     ensures { λ r. ⌜ r ≡ givenOf «test» o ⌝ }
 {
     if test { o } else { Outcome::None }
+}
+
+// Whether a rule applied.
+pub fn applies(o: Outcome) -> bool
+    ensures { λ r. ⌜ r ≡ appliesOf o ⌝ }
+{
+    match o {
+        Outcome::None => false,
+        Outcome::Value(_) => true,
+        Outcome::Form(_) => true,
+        Outcome::Add(_) => true,
+        Outcome::NotOf(_) => true,
+        Outcome::AddNotOf(_) => true,
+    }
 }
 
 // The first outcome that is not none.

@@ -4,7 +4,7 @@ use value::Driver;
 use value::Net;
 use value::Slot;
 ghost use mathlib.Core.Path.{_≡_};
-ghost use mathlib.Core.Bool.{false, cond};
+ghost use mathlib.Core.Bool.{false};
 ghost use mathlib.Core.List.{[], _∷_};
 ghost use Prim.Native.Nat.{_+_, _≤_, _<_};
 ghost use lib.ListN.{length, getD};
@@ -23,12 +23,6 @@ const ORDER: usize = 5120;
 // The nets that a cell reads, by field; a constant where there is none.
 struct Operands(Net, Net, Net);
 
-fn pick(b: bool, x: u32, y: u32) -> u32
-    ensures { λ r. ⌜ r ≡ cond b x y ⌝ }
-{
-    if b { x } else { y }
-}
-
 // Those of a slot's cell, from the fields of its record. No branch on the kind, which is hard to predict.
 fn operands_at(work: &[u32], s: Slot) -> Operands
     ensures { λ r. ⌜ r ≡ operandsOf (cellOf (wordRecord (now (work .entry)) (s .0))) ⌝ }
@@ -36,9 +30,9 @@ fn operands_at(work: &[u32], s: Slot) -> Operands
     let r = netlist::record_in(work, s);
     let no_b = logic::both(1 <= r.kind, r.kind <= 4);
     Operands(
-        Net(pick(r.kind == 1, 0, r.a)),
-        Net(pick(no_b, 0, r.b)),
-        Net(pick(r.kind == 8, r.c, 0)),
+        Net(logic::pick32(r.kind == 1, 0, r.a)),
+        Net(logic::pick32(no_b, 0, r.b)),
+        Net(logic::pick32(r.kind == 8, r.c, 0)),
     )
 }
 

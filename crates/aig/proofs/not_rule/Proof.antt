@@ -1,3 +1,4 @@
+use Rattle.normalize.proofs.First.{held, failed}
 use Rattle.aig.specs.Aig.{notRule}
 use borrow.Author.Needs.{needs}
 use Rattle.aig.proofs.not_rule.Statement.{statement}
@@ -5,67 +6,53 @@ use Rattle.aig.proofs.not_rule.Tie as tie
 use Rattle.aig.proofs.not_rule.Reads as reads
 use Rattle.aig.proofs.not_rule.Lts as lts
 use Rattle.aig.proofs.not_of_not.Reads as not-of-not-reads
-use Rattle.normalize.proofs.given.Reads as given-reads
-use Rattle.normalize.proofs.or_else.Reads as or-else-reads
 use Rattle.value.proofs.net_eq.Reads as net-eq-reads
 
--- src/lib.rt:43:33
+-- src/lib.rt:41:8
 net-eq-requires : tie.Need-net-eq-requires
 net-eq-requires c κs = search needs
 
--- src/lib.rt:43:9
-given-requires : tie.Need-given-requires
-given-requires c κs = search needs
+-- src/lib.rt:42:9
+returns : tie.Need-returns
+unfolding notRule
+returns c = search (held, failed)
 
--- src/lib.rt:44:32
+-- src/lib.rt:44:8
 net-eq-requires-2 : tie.Need-net-eq-requires-2
 net-eq-requires-2 c κs = search needs
 
--- src/lib.rt:44:9
-given-requires-2 : tie.Need-given-requires-2
-given-requires-2 c κs = search needs
+-- src/lib.rt:45:9
+returns-2 : tie.Need-returns-2
+unfolding notRule
+returns-2 c = search (held, failed)
 
--- src/lib.rt:45:34
+-- src/lib.rt:47:8
 net-eq-requires-3 : tie.Need-net-eq-requires-3
 net-eq-requires-3 c κs = search needs
 
--- src/lib.rt:45:9
-given-requires-3 : tie.Need-given-requires-3
-given-requires-3 c κs = search needs
+-- src/lib.rt:48:9
+returns-3 : tie.Need-returns-3
+unfolding notRule
+returns-3 c = search (held, failed)
 
--- src/lib.rt:48:59
+-- src/lib.rt:50:5
 not-of-not-requires : tie.Need-not-of-not-requires
 not-of-not-requires c κs = search needs
 
--- src/lib.rt:48:33
-or-else-requires : tie.Need-or-else-requires
-or-else-requires c κs = search needs
-
--- src/lib.rt:48:9
-or-else-requires-2 : tie.Need-or-else-requires-2
-or-else-requires-2 c κs = search needs
-
--- src/lib.rt:46:5
-or-else-requires-3 : tie.Need-or-else-requires-3
-or-else-requires-3 c κs = search needs
-
--- src/lib.rt:40:1
-returns : tie.Need-returns
+-- src/lib.rt:38:1
+returns-4 : tie.Need-returns-4
 unfolding notRule
-returns c = rw (c .or-else3 .ensures, c .before .or-else2 .ensures, c .before .before .or-else .ensures, c .before .before .before .not-of-not .ensures, c .before .before .before .before .given3 .ensures, c .before .before .before .before .before .net-eq3 .ensures, c .before .before .before .before .before .before .given2 .ensures, c .before .before .before .before .before .before .before .net-eq2 .ensures, c .before .before .before .before .before .before .before .before .given .ensures, c .before .before .before .before .before .before .before .before .before .net-eq .ensures)
+returns-4 c = search (held, failed)
 
 pub not-rule-spec : {M : Type 1} → statement M
 not-rule-spec =
     tie.close
     (tie.spec
     net-eq-requires
-    given-requires
+    returns
     net-eq-requires-2
-    given-requires-2
+    returns-2
     net-eq-requires-3
-    given-requires-3
+    returns-3
     not-of-not-requires
-    or-else-requires
-    or-else-requires-2
-    or-else-requires-3
-    returns)
+    returns-4)

@@ -5,27 +5,27 @@ use Rattle.merge.proofs.key_record.Statement.{statement}
 use Rattle.merge.proofs.key_record.Tie as tie
 use Rattle.merge.proofs.key_record.Reads as reads
 use Rattle.merge.proofs.key_record.Lts as lts
-use Rattle.design.proofs.visit.pick32.Reads as pick32-reads
-use Rattle.design.proofs.visit.pick8.Reads as pick8-reads
+use Rattle.logic.proofs.pick32.Reads as pick32-reads
+use Rattle.logic.proofs.pick8.Reads as pick8-reads
 use Rattle.merge.proofs.is_turned.Reads as is-turned-reads
 
--- src/lib.rt:40:9
+-- src/lib.rt:32:9
 is-turned-requires : tie.Need-is-turned-requires
 is-turned-requires c κs = search needs
 
--- src/lib.rt:43:16
+-- src/lib.rt:35:16
 pick8-requires : tie.Need-pick8-requires
 pick8-requires c κs = search needs
 
--- src/lib.rt:45:12
+-- src/lib.rt:37:12
 pick32-requires : tie.Need-pick32-requires
 pick32-requires c κs = search needs
 
--- src/lib.rt:46:12
+-- src/lib.rt:38:12
 pick32-requires-2 : tie.Need-pick32-requires-2
 pick32-requires-2 c κs = search needs
 
--- src/lib.rt:37:1
+-- src/lib.rt:29:1
 returns : tie.Need-returns
 unfolding keyFields
 returns c = cc

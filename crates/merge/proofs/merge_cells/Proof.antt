@@ -16,43 +16,43 @@ Inv-loop work₀ n count k₀ j₀ work k j = Turning n count work₀ work k j
 abbrev μ-loop : tie.MeasureT-loop
 μ-loop work₀ n count k₀ j₀ work k j = count - j
 
--- src/lib.rt:200:5
+-- src/lib.rt:155:5
 loop-holds : tie.Need-loop-holds Inv-loop μ-loop
 loop-holds c = search turning-none
 
--- src/lib.rt:201:43
+-- src/lib.rt:156:43
 cast-word : tie.Need-cast-word Inv-loop μ-loop
 cast-word c = search needs
 
--- src/lib.rt:201:34
+-- src/lib.rt:156:34
 add-word : tie.Need-add-word Inv-loop μ-loop
 add-word c = omega arith
 
--- src/lib.rt:201:13
+-- src/lib.rt:156:13
 word-requires : tie.Need-word-requires Inv-loop μ-loop
 word-requires c κs = search needs
 
--- src/lib.rt:202:9
+-- src/lib.rt:157:9
 merge-next-requires : tie.Need-merge-next-requires Inv-loop μ-loop
 merge-next-requires c κs = (search needs, (search turning-inside, search turning-room))
 
--- src/lib.rt:203:9
+-- src/lib.rt:158:9
 add-j : tie.Need-add-j Inv-loop μ-loop
 add-j c = omega arith
 
--- src/lib.rt:200:5
+-- src/lib.rt:155:5
 loop-less : tie.Need-loop-less Inv-loop μ-loop
 loop-less c = omega arith
 
--- src/lib.rt:200:5
+-- src/lib.rt:155:5
 loop-again : tie.Need-loop-again Inv-loop μ-loop
 loop-again c = search turning-more
 
--- src/lib.rt:194:1
+-- src/lib.rt:149:1
 same-length : tie.Need-same-length Inv-loop μ-loop
 same-length c = search needs
 
--- src/lib.rt:194:1
+-- src/lib.rt:149:1
 returns : tie.Need-returns Inv-loop μ-loop
 returns c = search turning-all
 

@@ -11,39 +11,39 @@ use Rattle.merge.proofs.key_record.Reads as key-record-reads
 use Rattle.netlist.proofs.put_record.Reads as put-record-reads
 use Rattle.netlist.proofs.record_in.Reads as record-in-reads
 
--- src/lib.rt:69:36
+-- src/lib.rt:49:28
 record-in-requires : tie.Need-record-in-requires
 record-in-requires c κs = search needs
 
--- src/lib.rt:69:9
+-- src/lib.rt:49:9
 plain-requires : tie.Need-plain-requires
 plain-requires c κs = search needs
 
--- src/lib.rt:70:26
+-- src/lib.rt:50:26
 cast-key-record : tie.Need-cast-key-record
 cast-key-record c = search needs
 
--- src/lib.rt:70:38
+-- src/lib.rt:50:38
 replaced-record-requires : tie.Need-replaced-record-requires
 replaced-record-requires c κs = search needs
 
--- src/lib.rt:70:9
+-- src/lib.rt:50:9
 key-record-requires : tie.Need-key-record-requires
 key-record-requires c κs = search needs
 
--- src/lib.rt:71:36
+-- src/lib.rt:51:36
 add-t15 : tie.Need-add-t15
 add-t15 c = search needs
 
--- src/lib.rt:71:5
+-- src/lib.rt:51:5
 put-record-requires : tie.Need-put-record-requires
 put-record-requires c κs = search needs
 
--- src/lib.rt:64:1
+-- src/lib.rt:44:1
 same-length : tie.Need-same-length
 same-length c = search needs
 
--- src/lib.rt:64:1
+-- src/lib.rt:44:1
 returns : tie.Need-returns
 returns c = search key-put
 

@@ -8,7 +8,7 @@ use Rattle.order.proofs.operands_at.Reads as reads
 use Rattle.order.proofs.operands_at.Lts as lts
 use Rattle.logic.proofs.both.Reads as both-reads
 use Rattle.netlist.proofs.record_in.Reads as record-in-reads
-use Rattle.order.proofs.pick.Reads as pick-reads
+use Rattle.logic.proofs.pick32.Reads as pick32-reads
 
 -- src/lib.rt:36:9
 record-in-requires : tie.Need-record-in-requires
@@ -19,16 +19,16 @@ both-requires : tie.Need-both-requires
 both-requires c κs = search needs
 
 -- src/lib.rt:39:13
-pick-requires : tie.Need-pick-requires
-pick-requires c κs = search needs
+pick32-requires : tie.Need-pick32-requires
+pick32-requires c κs = search needs
 
 -- src/lib.rt:40:13
-pick-requires-2 : tie.Need-pick-requires-2
-pick-requires-2 c κs = search needs
+pick32-requires-2 : tie.Need-pick32-requires-2
+pick32-requires-2 c κs = search needs
 
 -- src/lib.rt:41:13
-pick-requires-3 : tie.Need-pick-requires-3
-pick-requires-3 c κs = search needs
+pick32-requires-3 : tie.Need-pick32-requires-3
+pick32-requires-3 c κs = search needs
 
 -- src/lib.rt:33:1
 returns : tie.Need-returns
@@ -41,7 +41,7 @@ operands-at-spec =
     (tie.spec
     record-in-requires
     both-requires
-    pick-requires
-    pick-requires-2
-    pick-requires-3
+    pick32-requires
+    pick32-requires-2
+    pick32-requires-3
     returns)

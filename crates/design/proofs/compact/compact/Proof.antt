@@ -1,4 +1,4 @@
-use Rattle.design.proofs.Compacting.{Writing, writing-none, writing-more, writing-all}
+use Rattle.design.proofs.Compacting.{Writing, writing-none, writing-numbered, writing-more, writing-all}
 use Prim.Native.Nat.{_-_}
 use native.Mathlib.Omega.{arith}
 use borrow.Author.Needs.{needs}
@@ -20,7 +20,7 @@ loop-holds c = search writing-none
 
 -- src/compact.rt:97:9
 copy-kept-requires : tie.Need-copy-kept-requires Inv-loop μ-loop
-copy-kept-requires c κs = search needs
+copy-kept-requires c κs = (search writing-numbered, search needs)
 
 -- src/compact.rt:98:9
 add-s : tie.Need-add-s Inv-loop μ-loop

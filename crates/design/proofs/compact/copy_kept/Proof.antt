@@ -1,4 +1,4 @@
-use Rattle.design.proofs.Compacting.{copied, copied-next, passed, passed-next}
+use Rattle.design.proofs.Compacting.{next-fits, copied, copied-next, passed, passed-next}
 use borrow.Author.Needs.{needs}
 use Rattle.design.proofs.compact.copy_kept.Statement.{statement}
 use Rattle.design.proofs.compact.copy_kept.Tie as tie
@@ -32,7 +32,7 @@ write-record-requires c κs = search needs
 
 -- src/compact.rt:196:16
 add-result : tie.Need-add-result
-add-result c = search needs
+add-result c = search next-fits
 
 -- src/compact.rt:196:9
 same-length : tie.Need-same-length

@@ -1,26 +1,43 @@
-use Rattle.design.proofs.Compacting.{counted-past}
+use Rattle.design.proofs.Compacting.{numbered-near, end-few, twice-fits, counted-end}
 use borrow.Author.Needs.{needs}
 use Rattle.design.proofs.compact.count_kept.Statement.{statement}
 use Rattle.design.proofs.compact.count_kept.Tie as tie
 use Rattle.design.proofs.compact.count_kept.Reads as reads
 use Rattle.design.proofs.compact.count_kept.Lts as lts
-use Rattle.design.proofs.compact.count_to.Reads as count-to-reads
+use Rattle.design.proofs.compact.count_from.Reads as count-from-reads
+use Rattle.logic.proofs.pick32.Reads as pick32-reads
 
--- src/compact.rt:138:9
-count-to-requires : tie.Need-count-to-requires
-count-to-requires c κs = search needs
+-- src/compact.rt:144:9
+pick32-requires : tie.Need-pick32-requires
+pick32-requires c κs = search needs
 
--- src/compact.rt:138:9
+-- src/compact.rt:145:23
+mul-near : tie.Need-mul-near
+mul-near c = search twice-fits
+
+-- src/compact.rt:146:9
+pick32-requires-2 : tie.Need-pick32-requires-2
+pick32-requires-2 c κs = search needs
+
+-- src/compact.rt:147:34
+pick32-requires-3 : tie.Need-pick32-requires-3
+pick32-requires-3 c κs = search needs
+
+-- src/compact.rt:147:5
+count-from-requires : tie.Need-count-from-requires
+count-from-requires c κs = (search numbered-near, search end-few)
+
+-- src/compact.rt:139:1
 returns : tie.Need-returns
-returns c = search needs
-
--- src/compact.rt:140:5
-count-to-requires-2 : tie.Need-count-to-requires-2
-count-to-requires-2 c κs = search needs
-
--- src/compact.rt:132:1
-returns-2 : tie.Need-returns-2
-returns-2 c = (search counted-past, search needs)
+returns c = (search counted-end, search needs)
 
 pub count-kept-spec : {M : Type 1} → statement M
-count-kept-spec = tie.close (tie.spec count-to-requires returns count-to-requires-2 returns-2)
+count-kept-spec =
+    tie.close
+    (tie.spec
+    pick32-requires
+    mul-near
+    pick32-requires-2
+    pick32-requires-3
+    count-from-requires
+    returns)

@@ -17,8 +17,8 @@ enum-told : tie.Need-enum-told
 enum-told c = search needs
 
 -- src/compact.rt:149:22
-enum-known-s : tie.Need-enum-known-s
-enum-known-s c = search needs
+enum-known-y : tie.Need-enum-known-y
+enum-known-y c = search needs
 
 -- src/compact.rt:149:54
 count-kept-requires : tie.Need-count-kept-requires
@@ -42,7 +42,7 @@ net-map-spec =
     (tie.spec
     as-cell-index-requires
     enum-told
-    enum-known-s
+    enum-known-y
     count-kept-requires
     from-cell-index-requires
     returns

@@ -8,7 +8,7 @@ use Rattle.design.proofs.compact.note_kept.Reads as reads
 use Rattle.design.proofs.compact.note_kept.Lts as lts
 use Rattle.cell.proofs.put.Reads as put-reads
 use Rattle.design.proofs.compact.is_kept.Reads as is-kept-reads
-use Rattle.design.proofs.visit.pick32.Reads as pick32-reads
+use Rattle.logic.proofs.pick32.Reads as pick32-reads
 
 abbrev Inv-loop : tie.InvT-loop
 Inv-loop work₀ n s₀ work s = Noting n work₀ work s

@@ -4,7 +4,7 @@ use Rattle.design.proofs.visit.net_a.Statement.{statement}
 use Rattle.design.proofs.visit.net_a.Tie as tie
 use Rattle.design.proofs.visit.net_a.Reads as reads
 use Rattle.design.proofs.visit.net_a.Lts as lts
-use Rattle.design.proofs.visit.pick32.Reads as pick32-reads
+use Rattle.logic.proofs.pick32.Reads as pick32-reads
 
 -- src/visit.rt:41:9
 pick32-requires : tie.Need-pick32-requires

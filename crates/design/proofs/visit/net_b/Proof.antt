@@ -4,7 +4,7 @@ use Rattle.design.proofs.visit.net_b.Statement.{statement}
 use Rattle.design.proofs.visit.net_b.Tie as tie
 use Rattle.design.proofs.visit.net_b.Reads as reads
 use Rattle.design.proofs.visit.net_b.Lts as lts
-use Rattle.design.proofs.visit.pick32.Reads as pick32-reads
+use Rattle.logic.proofs.pick32.Reads as pick32-reads
 
 -- src/visit.rt:47:9
 pick32-requires : tie.Need-pick32-requires

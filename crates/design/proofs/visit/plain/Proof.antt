@@ -6,8 +6,8 @@ use Rattle.design.proofs.visit.plain.Statement.{statement}
 use Rattle.design.proofs.visit.plain.Tie as tie
 use Rattle.design.proofs.visit.plain.Reads as reads
 use Rattle.design.proofs.visit.plain.Lts as lts
-use Rattle.design.proofs.visit.pick32.Reads as pick32-reads
-use Rattle.design.proofs.visit.pick8.Reads as pick8-reads
+use Rattle.logic.proofs.pick32.Reads as pick32-reads
+use Rattle.logic.proofs.pick8.Reads as pick8-reads
 use Rattle.logic.proofs.both.Reads as both-reads
 use Rattle.logic.proofs.either.Reads as either-reads
 

@@ -4,7 +4,7 @@ use Rattle.design.proofs.visit.with_nets.Statement.{statement}
 use Rattle.design.proofs.visit.with_nets.Tie as tie
 use Rattle.design.proofs.visit.with_nets.Reads as reads
 use Rattle.design.proofs.visit.with_nets.Lts as lts
-use Rattle.design.proofs.visit.pick32.Reads as pick32-reads
+use Rattle.logic.proofs.pick32.Reads as pick32-reads
 
 -- src/visit.rt:58:12
 pick32-requires : tie.Need-pick32-requires

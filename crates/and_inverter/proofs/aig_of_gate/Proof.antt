@@ -1,0 +1,146 @@
+use Rattle.normalize.specs.Outcomes.{_orElse_}
+use Rattle.normalize.proofs.First.{none-orElse, orElse-none}
+use Rattle.aig.specs.Aig.{ifNot, ifAig, ifXor, aigOfNot, aigOfAnd, aigOfNand, aigOfXor}
+use borrow.Author.Needs.{needs}
+use Rattle.and_inverter.proofs.aig_of_gate.Statement.{statement}
+use Rattle.and_inverter.proofs.aig_of_gate.Tie as tie
+use Rattle.and_inverter.proofs.aig_of_gate.Reads as reads
+use Rattle.and_inverter.proofs.aig_of_gate.Lts as lts
+use Rattle.and_inverter.proofs.aig_of_aig.Reads as aig-of-aig-reads
+use Rattle.and_inverter.proofs.merged.Reads as merged-reads
+use Rattle.and_inverter.proofs.xor.xor_with_either.Reads as xor-with-either-reads
+
+-- src/lib.rt:68:27
+enum-told : tie.Need-enum-told
+enum-told c = search needs
+
+-- src/lib.rt:69:23
+enum-known-src-a : tie.Need-enum-known-src-a
+enum-known-src-a c = search needs
+
+-- src/lib.rt:70:23
+enum-known-c : tie.Need-enum-known-c
+enum-known-c c = search needs
+
+-- src/lib.rt:70:29
+merged-requires : tie.Need-merged-requires
+merged-requires c κs = search needs
+
+-- src/lib.rt:71:23
+enum-known-c-2 : tie.Need-enum-known-c-2
+enum-known-c-2 c = search needs
+
+-- src/lib.rt:71:34
+aig-of-aig-requires : tie.Need-aig-of-aig-requires
+aig-of-aig-requires c κs = search needs
+
+-- src/lib.rt:72:23
+enum-known-c-3 : tie.Need-enum-known-c-3
+enum-known-c-3 c = search needs
+
+-- src/lib.rt:72:34
+xor-with-either-requires : tie.Need-xor-with-either-requires
+xor-with-either-requires c κs = search needs
+
+-- src/lib.rt:73:31
+enum-told-2 : tie.Need-enum-told-2
+enum-told-2 c = search needs
+
+-- src/lib.rt:74:35
+enum-told-3 : tie.Need-enum-told-3
+enum-told-3 c = search needs
+
+-- src/lib.rt:75:29
+enum-told-4 : tie.Need-enum-told-4
+enum-told-4 c = search needs
+
+-- src/lib.rt:76:32
+enum-told-5 : tie.Need-enum-told-5
+enum-told-5 c = search needs
+
+-- src/lib.rt:77:31
+enum-told-6 : tie.Need-enum-told-6
+enum-told-6 c = search needs
+
+-- src/lib.rt:78:35
+enum-told-7 : tie.Need-enum-told-7
+enum-told-7 c = search needs
+
+-- src/lib.rt:64:1
+returns : tie.Need-returns
+unfolding _orElse_ ifNot ifAig ifXor aigOfNot aigOfAnd aigOfNand aigOfXor
+returns c = rw (c .enum-told .given .1)
+
+-- src/lib.rt:64:1
+returns-2 : tie.Need-returns-2
+unfolding _orElse_ ifNot ifAig ifXor aigOfNot aigOfAnd aigOfNand aigOfXor
+returns-2 c = rw (c .before .before .before .before .before .src-a .given .1, c .before .before .c .given .1) (c .merged .ensures)
+
+-- src/lib.rt:64:1
+returns-3 : tie.Need-returns-3
+unfolding ifNot ifAig ifXor aigOfNot aigOfAnd aigOfNand aigOfXor
+returns-3 c = rw (c .before .before .before .before .before .src-a .given .1, c .before .before .c2 .given .1, none-orElse, orElse-none) (c .aig-of-aig .ensures)
+
+-- src/lib.rt:64:1
+returns-4 : tie.Need-returns-4
+unfolding _orElse_ ifNot ifAig ifXor aigOfNot aigOfAnd aigOfNand aigOfXor
+returns-4 c = rw (c .before .before .before .before .before .src-a .given .1, c .before .before .c3 .given .1) (c .xor-with-either .ensures)
+
+-- src/lib.rt:64:1
+returns-5 : tie.Need-returns-5
+unfolding _orElse_ ifNot ifAig ifXor aigOfNot aigOfAnd aigOfNand aigOfXor
+returns-5 c = rw (c .before .before .before .src-a .given .1, c .enum-told2 .given .1)
+
+-- src/lib.rt:64:1
+returns-6 : tie.Need-returns-6
+unfolding _orElse_ ifNot ifAig ifXor aigOfNot aigOfAnd aigOfNand aigOfXor
+returns-6 c = rw (c .before .before .before .src-a .given .1, c .enum-told3 .given .1)
+
+-- src/lib.rt:64:1
+returns-7 : tie.Need-returns-7
+unfolding _orElse_ ifNot ifAig ifXor aigOfNot aigOfAnd aigOfNand aigOfXor
+returns-7 c = rw (c .before .before .before .src-a .given .1, c .enum-told4 .given .1)
+
+-- src/lib.rt:64:1
+returns-8 : tie.Need-returns-8
+unfolding _orElse_ ifNot ifAig ifXor aigOfNot aigOfAnd aigOfNand aigOfXor
+returns-8 c = rw (c .before .before .before .src-a .given .1, c .enum-told5 .given .1)
+
+-- src/lib.rt:64:1
+returns-9 : tie.Need-returns-9
+unfolding _orElse_ ifNot ifAig ifXor aigOfNot aigOfAnd aigOfNand aigOfXor
+returns-9 c = rw (c .before .before .before .src-a .given .1, c .enum-told6 .given .1)
+
+-- src/lib.rt:64:1
+returns-10 : tie.Need-returns-10
+unfolding _orElse_ ifNot ifAig ifXor aigOfNot aigOfAnd aigOfNand aigOfXor
+returns-10 c = rw (c .before .before .before .src-a .given .1, c .enum-told7 .given .1)
+
+pub aig-of-gate-spec : {M : Type 1} → statement M
+aig-of-gate-spec =
+    tie.close
+    (tie.spec
+    enum-told
+    enum-known-src-a
+    enum-known-c
+    merged-requires
+    enum-known-c-2
+    aig-of-aig-requires
+    enum-known-c-3
+    xor-with-either-requires
+    enum-told-2
+    enum-told-3
+    enum-told-4
+    enum-told-5
+    enum-told-6
+    enum-told-7
+    returns
+    returns-2
+    returns-3
+    returns-4
+    returns-5
+    returns-6
+    returns-7
+    returns-8
+    returns-9
+    returns-10)

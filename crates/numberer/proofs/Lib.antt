@@ -1,0 +1,4 @@
+pub mod Records
+pub mod Seeking
+pub mod Mixing
+pub mod Inserting

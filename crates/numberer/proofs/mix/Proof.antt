@@ -1,0 +1,68 @@
+-- `numberer::mix` meets its contract. Assumes nothing.
+use Rattle.numberer.specs.Words.{mixOf}
+use borrow.Author.Needs.{needs}
+use Rattle.numberer.proofs.mix.Statement.{statement}
+use Rattle.numberer.proofs.mix.Tie as tie
+use Rattle.numberer.proofs.mix.Reads as reads
+use Rattle.numberer.proofs.mix.Lts as lts
+
+-- src/lib.rt:36:17
+cast-rest : tie.Need-cast-rest
+cast-rest c = search needs
+
+-- src/lib.rt:36:39
+mul-rest : tie.Need-mul-rest
+mul-rest c = search needs
+
+-- src/lib.rt:36:16
+add-rest : tie.Need-add-rest
+add-rest c = search needs
+
+-- src/lib.rt:37:48
+cast-result : tie.Need-cast-result
+cast-result c = search needs
+
+-- src/lib.rt:37:70
+mul-result : tie.Need-mul-result
+mul-result c = search needs
+
+-- src/lib.rt:37:47
+add-result : tie.Need-add-result
+add-result c = search needs
+
+-- src/lib.rt:37:39
+mul-result-2 : tie.Need-mul-result-2
+mul-result-2 c = search needs
+
+-- src/lib.rt:37:26
+add-result-2 : tie.Need-add-result-2
+add-result-2 c = search needs
+
+-- src/lib.rt:37:18
+mul-result-3 : tie.Need-mul-result-3
+mul-result-3 c = search needs
+
+-- src/lib.rt:37:5
+add-result-3 : tie.Need-add-result-3
+add-result-3 c = search needs
+
+-- src/lib.rt:33:1
+returns : tie.Need-returns
+unfolding mixOf
+returns c = cc
+
+pub mix-spec : {M : Type 1} → statement M
+mix-spec =
+    tie.close
+    (tie.spec
+    cast-rest
+    mul-rest
+    add-rest
+    cast-result
+    mul-result
+    add-result
+    mul-result-2
+    add-result-2
+    mul-result-3
+    add-result-3
+    returns)

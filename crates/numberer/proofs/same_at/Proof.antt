@@ -1,0 +1,50 @@
+-- `numberer::same_at` meets its contract. Assumes nothing.
+use Rattle.numberer.proofs.Mixing.{other-there, compared-there}
+use borrow.Author.Needs.{needs}
+use Rattle.numberer.proofs.same_at.Statement.{statement}
+use Rattle.numberer.proofs.same_at.Tie as tie
+use Rattle.numberer.proofs.same_at.Reads as reads
+use Rattle.numberer.proofs.same_at.Lts as lts
+use Rattle.cell.proofs.word.Reads as word-reads
+use Rattle.numberer.proofs.same_key.Reads as same-key-reads
+use Rattle.netlist.proofs.record_in.Reads as record-in-reads
+
+-- src/lib.rt:64:25
+add-word : tie.Need-add-word
+add-word c = search needs
+
+-- src/lib.rt:64:8
+word-requires : tie.Need-word-requires
+word-requires c κs = search needs
+
+-- src/lib.rt:65:55
+add-t10 : tie.Need-add-t10
+add-t10 c = search needs
+
+-- src/lib.rt:65:25
+record-in-requires : tie.Need-record-in-requires
+record-in-requires c κs = search needs
+
+-- src/lib.rt:65:9
+same-key-requires : tie.Need-same-key-requires
+same-key-requires c κs = search needs
+
+-- src/lib.rt:65:9
+returns : tie.Need-returns
+returns c = search compared-there
+
+-- src/lib.rt:58:1
+returns-2 : tie.Need-returns-2
+returns-2 c = search other-there
+
+pub same-at-spec : {M : Type 1} → statement M
+same-at-spec =
+    tie.close
+    (tie.spec
+    add-word
+    word-requires
+    add-t10
+    record-in-requires
+    same-key-requires
+    returns
+    returns-2)
