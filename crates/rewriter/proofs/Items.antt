@@ -5,7 +5,6 @@ use mathlib.Core.List.{List, [], _∷_, _++_, append-assoc, append-nil}
 use Prim.Native.Nat.{ℕ, zero, suc, _+_, _≤_, _<_}
 use native.Mathlib.Omega.{arith}
 use native.Mathlib.Decide.{decLt}
-use lib.Dec.{eqb}
 use lib.ListN.{length, getD, length-set}
 use Rattle.value.specs.declared.Net.{Net}
 use Rattle.cell.specs.declared.Cell.{Cell}
@@ -20,27 +19,31 @@ use Rattle.order.specs.Orders.{bitDeps}
 use Rattle.design.specs.Queue.{Design, Entry, netIn, mapNetNew, findNewCell, replaceNet, replaceCell}
 use Rattle.design.specs.Fields.{renamedFields}
 use Rattle.design.specs.Words.{replacedIn}
-use Rattle.design.proofs.Words.{cells-length, cell-at, replaced-length}
+use Rattle.design.proofs.Words.{cell-at, replaced-length}
 use Rattle.design.proofs.Visiting.{renamed-cell}
 use Rattle.design.proofs.Applying.{replaced-zero}
 use Rattle.rewrite.specs.Rewriter.{Rewriter, Lookup, weight, finished}
 use Rattle.rewrite.specs.Rewrite as rewriting
 use Rattle.rewrite.specs.Rewrite.{Run, ran, stuck, bitDone, cellDone, addCell, processCell, runItem, andThen, runItems, slotsOf}
 use Rattle.order_laws.specs.Ordered.{has, OnceAfter, FedAfter}
-use Rattle.order_laws.proofs.Walks.{never, eqb-self, or-left, or-right, has-append}
+use Rattle.order_laws.proofs.Truth.{never, or-right}
+use Rattle.order_laws.proofs.Members.{has-first, has-later, has-append}
 use Rattle.aig_laws.specs.Reads.{GateOf}
 use Rattle.rewrite_laws.proofs.Settled.{Settled}
 use Rattle.rewrite_laws.proofs.Grows.{GrowsRun, runItems-grows}
-use Rattle.rewrite_laws.proofs.Running.{Few, State, RunOk, splittable-gate, effect-none, c-settled, item-ok}
-use Rattle.rewriter.specs.declared.Extent.{Extent}
-use Rattle.rewriter.specs.declared.Added.{Added}
-use Rattle.rewriter.specs.declared.Added.the-variants as added
-use Rattle.rewriter.specs.declared.Processed.{Processed}
-use Rattle.rewriter.specs.declared.Processed.the-variants as processed
+use Rattle.rewrite_laws.proofs.Running.{RunOk, c-settled, item-ok}
+use Rattle.rewrite_laws.proofs.Items.{item-by, port-done}
+use Rattle.rewrite_laws.proofs.Keeping.{State}
+use Rattle.rewriter_state.specs.declared.Extent.{Extent}
+use Rattle.rewriter_state.specs.declared.Added.{Added}
+use Rattle.rewriter_state.specs.declared.Added.the-variants as added
+use Rattle.rewriter_cycle.specs.declared.Processed.{Processed}
+use Rattle.rewriter_cycle.specs.declared.Processed.the-variants as processed
 use Rattle.rewriter.specs.declared.Step.{Step}
 use Rattle.rewriter.specs.declared.Step.the-variants as step
-use Rattle.rewriter.specs.Words.{rewriterIn, Held, Finishes, Replaces, Stays, Becomes}
-use Rattle.rewriter.specs.Cycle.{slotsAfter, slotsAdded, Left, Answers, AnswersAdd, Processes, Adds}
+use Rattle.rewriter_state.specs.Words.{rewriterIn, Held, ReadySlot, Finishes, Replaces, Stays, Becomes}
+use Rattle.rewriter_cycle.specs.Cycle.{slotsAfter, slotsAdded, Left, Answers, AnswersAdd, Processes, Adds}
+use Rattle.rewriter_cycle.proofs.Passes.{held-few}
 use Rattle.rewriter.specs.Run.{Between, Went, Goes, ReadyCell, ReadyItem, ReadyItems, RunsBit, RunsCell, RunsItem, RunsItems}
 
 -- from one extent to another
@@ -80,13 +83,13 @@ left-between x x′ ws ws′ l = record {
 pub between-frame : (x x′ : Extent) (ws ws′ : List ℕ) → Between x x′ ws ws′ → Within 0 13312 ws ws′
 between-frame x x′ ws ws′ b = record { before = λ i h. absurd (omega arith); after = b .after; same = b .same }
 
--- after a step there is room for the slot's stamp
-module _ (x x₁ : Extent) (ws ws₁ : List ℕ) (l : Left x x₁ ws ws₁) (s : ℕ) (c : Cell) (g : ReadyCell x s ws c) where
-  left-room : x₁ .clock < x₁ .slots
-  left-room = omega (arith, l .onward .clock, g .room)
-
-  left-small : s < x₁ .tickets
-  left-small = omega (arith, l .onward .tickets, g .small)
+-- after a step a slot may be finished that could be before
+left-ready : (x x₁ : Extent) (ws ws₁ : List ℕ) → Left x x₁ ws ws₁ → (s : ℕ) → ReadySlot x s ws → ReadySlot x₁ s ws₁
+left-ready x x₁ ws ws₁ l s g = record {
+  held = l .held;
+  small = omega (arith, l .onward .tickets, g .small);
+  room = omega (arith, l .onward .clock, g .room);
+}
 
 -- a slot is finished after its cell was processed
 module _ (x x₁ x₂ : Extent) (ws ws₁ ws₂ : List ℕ) (s : ℕ) (d : Design) (es : List Entry) (l : Left x x₁ ws ws₁) (f : Finishes s x₁ x₂ ws₁ ws₂ d es) where
@@ -138,14 +141,8 @@ module _ (x : Extent) (ws ws₁ : List ℕ) (c : Cell) (a : Added) (p : Adds x w
     added-left : Left x x₁ ws ws₁
     added-left = added-at .1
 
-    pub added-held : Held x₁ ws₁
-    added-held = added-left .held
-
-    pub added-room : (s : ℕ) → ReadyCell x s ws c → x₁ .clock < x₁ .slots
-    added-room s g = left-room x x₁ ws ws₁ added-left s c g
-
-    pub added-small : (s : ℕ) → ReadyCell x s ws c → s < x₁ .tickets
-    added-small s g = left-small x x₁ ws ws₁ added-left s c g
+    pub added-ready : (s : ℕ) → ReadyCell x s ws c → ReadySlot x₁ s ws₁
+    added-ready s g = left-ready x x₁ ws ws₁ added-left s (g .slot)
 
     pub bit-on : (s : ℕ) (x₂ : Extent) (ws₂ : List ℕ) → Replaces s x₁ x₂ ws₁ ws₂ n → RunsBit x s ws ws₂ c (step.On x₂)
     bit-on s x₂ ws₂ f =
@@ -171,14 +168,8 @@ module _ (x : Extent) (ws ws₁ : List ℕ) (c : Cell) (a : Processed) (p : Proc
     none-left : Left x x₁ ws ws₁
     none-left = processed-as (processed.None x₁) e .1
 
-    pub none-held : Held x₁ ws₁
-    none-held = none-left .held
-
-    pub none-room : (s : ℕ) → ReadyCell x s ws c → x₁ .clock < x₁ .slots
-    none-room s g = left-room x x₁ ws ws₁ none-left s c g
-
-    pub none-small : (s : ℕ) → ReadyCell x s ws c → s < x₁ .tickets
-    none-small s g = left-small x x₁ ws ws₁ none-left s c g
+    pub none-ready : (s : ℕ) → ReadyCell x s ws c → ReadySlot x₁ s ws₁
+    none-ready s g = left-ready x x₁ ws ws₁ none-left s (g .slot)
 
     pub none-on : (s : ℕ) → ReadyCell x s ws c → (x₂ : Extent) (ws₂ : List ℕ) → Stays s x₁ x₂ ws₁ ws₂ c → RunsCell x s ws ws₂ c (step.On x₂)
     none-on s g x₂ ws₂ f =
@@ -193,14 +184,8 @@ module _ (x : Extent) (ws ws₁ : List ℕ) (c : Cell) (a : Processed) (p : Proc
     cell-left : Left x x₁ ws ws₁
     cell-left = processed-as (processed.Cell d x₁) e .1
 
-    pub cell-held : Held x₁ ws₁
-    cell-held = cell-left .held
-
-    pub cell-room : (s : ℕ) → ReadyCell x s ws c → x₁ .clock < x₁ .slots
-    cell-room s g = left-room x x₁ ws ws₁ cell-left s c g
-
-    pub cell-small : (s : ℕ) → ReadyCell x s ws c → s < x₁ .tickets
-    cell-small s g = left-small x x₁ ws ws₁ cell-left s c g
+    pub cell-ready : (s : ℕ) → ReadyCell x s ws c → ReadySlot x₁ s ws₁
+    cell-ready s g = left-ready x x₁ ws ws₁ cell-left s (g .slot)
 
     pub cell-on : (s : ℕ) (x₂ : Extent) (ws₂ : List ℕ) → Becomes s x₁ x₂ ws₁ ws₂ d → RunsCell x s ws ws₂ c (step.On x₂)
     cell-on s x₂ ws₂ f =
@@ -214,14 +199,8 @@ module _ (x : Extent) (ws ws₁ : List ℕ) (c : Cell) (a : Processed) (p : Proc
     value-left : Left x x₁ ws ws₁
     value-left = processed-as (processed.Value n x₁) e .1
 
-    pub value-held : Held x₁ ws₁
-    value-held = value-left .held
-
-    pub value-room : (s : ℕ) → ReadyCell x s ws c → x₁ .clock < x₁ .slots
-    value-room s g = left-room x x₁ ws ws₁ value-left s c g
-
-    pub value-small : (s : ℕ) → ReadyCell x s ws c → s < x₁ .tickets
-    value-small s g = left-small x x₁ ws ws₁ value-left s c g
+    pub value-ready : (s : ℕ) → ReadyCell x s ws c → ReadySlot x₁ s ws₁
+    value-ready s g = left-ready x x₁ ws ws₁ value-left s (g .slot)
 
     pub value-on : (s : ℕ) (x₂ : Extent) (ws₂ : List ℕ) → Replaces s x₁ x₂ ws₁ ws₂ n → RunsCell x s ws ws₂ c (step.On x₂)
     value-on s x₂ ws₂ f =
@@ -237,11 +216,7 @@ module _ (x : Extent) (ws ws₁ : List ℕ) (c : Cell) (a : Processed) (p : Proc
       let k = processed-as processed.Full e in
       record { said = (omega (arith, k .0, slots-cell s c y), k .1) }
 
--- the slots are few, and the ticket's are counted
-pub few-slots : (x : Extent) (ws : List ℕ) (cs : List Cell) → Held x ws → Few cs (rewriterIn x ws)
-unfolding rewriterIn
-few-slots x ws cs h = omega (arith, h .fit, cells-length (x .slots) ws)
-
+-- the ticket's slots are counted
 pub tickets-are : (x : Extent) (ws : List ℕ) (cs : List Cell) (before : List ℕ) → State cs before (rewriterIn x ws) → length cs ≡ x .tickets
 unfolding rewriterIn
 tickets-are x ws cs before st = sym (st .inv .wide) ∙ replaced-length (x .tickets) ws
@@ -260,7 +235,7 @@ mapped-is x ws s h r own y c e₁ e₂ e₃ e₄ =
 -- one item
 module _ (x : Extent) (s : ℕ) (ws : List ℕ) (g : ReadyItem x s ws) where
   pub item-slot : s < x .slots
-  item-slot = omega (arith, g .small, g .running .held .many)
+  item-slot = omega (arith, g .slot .small, g .running .held .many)
 
   abbrev r : Rewriter
   r = rewriterIn x ws
@@ -272,7 +247,7 @@ module _ (x : Extent) (s : ℕ) (ws : List ℕ) (g : ReadyItem x s ws) where
   before = g .running .before
 
   inside : s < length cs
-  inside = omega (arith, g .small, tickets-are x ws cs before (g .running .state))
+  inside = omega (arith, g .slot .small, tickets-are x ws cs before (g .running .state))
 
   abbrev mapped : Cell
   mapped = visitMut (mapNetNew (r .design .replaced)) (cellIn (r .design .cells) s)
@@ -281,20 +256,19 @@ module _ (x : Extent) (s : ℕ) (ws : List ℕ) (g : ReadyItem x s ws) where
     pub item-ready : b ≡ false → ReadyCell x s ws c
     item-ready e = record {
       ready = record { running = g .running; gate = subst (GateOf (Settled cs (r .stamps))) (sym c-is) gate };
-      small = g .small;
-      room = g .room;
+      slot = g .slot;
     }
       where
         gate : GateOf (Settled cs (r .stamps)) mapped
         gate =
             c-settled cs (g .wired) before s inside (g .new) (g .fed) r (λ few. g .running .state) (ap hasEffects (sym c-is) ∙ sym b-is ∙ e)
-            (few-slots x ws cs (g .running .held))
+            (held-few x ws (g .running .held))
 
     pub item-effects : b ≡ true → RunsItem x s ws ws (step.On x)
-    unfolding runItem
     item-effects e = record {
       said = record {
-        now = go (isSplittable mapped) refl;
+        now = item-by findNewCell s r (λ z. z ≡ ran r) (λ b f. never effects f)
+            (λ f. port-done s r mapped (λ z. z ≡ ran r) findNewCell f (λ m k. never f (g .running .state .known mapped m k .1)) refl) (λ b f. never effects f);
         left = between-none x ws (g .running .held);
         clock = omega arith;
       };
@@ -302,15 +276,6 @@ module _ (x : Extent) (s : ℕ) (ws : List ℕ) (g : ReadyItem x s ws) where
       where
         effects : hasEffects mapped ≡ true
         effects = ap hasEffects (sym c-is) ∙ sym b-is ∙ e
-
-        idle : processCell findNewCell r mapped ≡ rewriting.none r
-        idle = effect-none findNewCell r mapped effects (λ m f. never effects (g .running .state .known mapped m f .1))
-
-        go : (b : Bool) → isSplittable mapped ≡ b
-            → cond b (bitDone s (addCell findNewCell r mapped)) (cellDone s mapped (processCell findNewCell r mapped)) ≡ ran r
-        go true q = never effects (splittable-gate mapped q)
-        go false q =
-            ap (cellDone s mapped) idle ∙ ap (λ (b : Bool). ran (cond b r (finished r s (r .design) (r .cache ++ ((mapped, netIn s) ∷ []))))) effects
 
   module _ (c : Cell) (c-is : c ≡ visitMut (mapNetNew (rewriterIn x ws .design .replaced)) (cellIn (rewriterIn x ws .design .cells) s)) (b : Bool) (b-is : b ≡ isSplittable c)
       (ws′ : List ℕ) (y : Step) where
@@ -401,15 +366,14 @@ module _ (x₀ : Extent) (k : ℕ) (ws₀ ws : List ℕ) (x : Extent) (j : ℕ) 
     unfolding wordsIn
     cut = table-cut (λ i. getD ws₀ (orderAt + i) 0) k j l
 
+    left-small : (s : ℕ) → has s (item ∷ cut .0) ≡ true → s < length (g .ready .ticket)
+    left-small s h = g .ready .small s (ap (has s) (cut .1) ∙ has-append s done (item ∷ cut .0) ∙ or-right (has s done) _ h)
+
     rest-small : (s : ℕ) → has s (cut .0) ≡ true → s < length (g .ready .ticket)
-    unfolding has
-    rest-small s h =
-        g .ready .small s (ap (has s) (cut .1) ∙ has-append s done (item ∷ cut .0) ∙ or-right (has s done) _ (or-right (eqb s item) (has s (cut .0)) h))
+    rest-small s h = left-small s (has-later s item (cut .0) h)
 
     item-small : item < length (g .ready .ticket)
-    unfolding has
-    item-small =
-        g .ready .small item (ap (has item) (cut .1) ∙ has-append item done (item ∷ cut .0) ∙ or-right (has item done) _ (or-left (eqb item item) (has item (cut .0)) (eqb-self item)))
+    item-small = left-small item (has-first item (cut .0))
 
     whole : runItems findNewCell (wordsIn orderAt k ws₀) (rewriterIn x₀ ws₀) ≡ andThen (runItems findNewCell (cut .0)) (runItem findNewCell item (rewriterIn x ws))
     unfolding runItems
@@ -433,10 +397,13 @@ module _ (x₀ : Extent) (k : ℕ) (ws₀ ws : List ℕ) (x : Extent) (j : ℕ) 
       rolling-ready = subst (λ (i : ℕ). ReadyItem x i ws) (sym is-item) (record {
         running = record { held = g .went .left .held; ticket = g .ready .ticket; before = done; state = g .state };
         wired = g .ready .wired;
-        small = omega (arith, item-small, tickets-are x ws (g .ready .ticket) done (g .state));
+        slot = record {
+          held = g .went .left .held;
+          small = omega (arith, item-small, tickets-are x ws (g .ready .ticket) done (g .state));
+          room = omega (arith, g .ready .room, g .went .clock, l);
+        };
         new = item-new;
         fed = item-fed;
-        room = omega (arith, g .ready .room, g .went .clock, l);
       })
 
       module _ (ws′ : List ℕ) (y : Step) (p : RunsItem x s ws ws′ y) where
@@ -468,7 +435,7 @@ module _ (x₀ : Extent) (k : ℕ) (ws₀ ws : List ℕ) (x : Extent) (j : ℕ) 
             state-after x′ w =
                 subst (RunOk (g .ready .ticket) (done ++ (item ∷ []))) (w .now)
                 (item-ok (g .ready .ticket) (g .ready .wired) done item item-small item-new item-fed (rewriterIn x ws) (λ few. g .state))
-                (few-slots x′ ws′ (g .ready .ticket) (w .left .held))
+                (held-few x′ ws′ (w .left .held))
 
         pub rolling-full : y ≡ step.Full → RunsItems x₀ k ws₀ ws′ step.Full
         rolling-full e =

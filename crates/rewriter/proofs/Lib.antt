@@ -1,6 +1,3 @@
-pub mod Looking
-pub mod Words
-pub mod Passes
 pub mod Items
-pub mod Standing
+pub mod Applying
 pub mod Runs

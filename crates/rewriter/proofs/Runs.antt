@@ -1,11 +1,11 @@
 -- The run from its beginning to the netlist that `compact` is given. Assumes nothing.
 use mathlib.Core.Path.{_≡_, refl, sym, ap, _∙_, subst}
-use mathlib.Core.List.{List, [], _∷_, _++_, map}
+use mathlib.Core.List.{List, [], _++_, map}
 use mathlib.Core.Logic.{inl}
-use Prim.Native.Nat.{ℕ, zero, suc, _+_, _-_, _≤_, _<_}
+use Prim.Native.Nat.{ℕ, _+_, _-_, _≤_, _<_}
 use native.Mathlib.Omega.{arith}
 use native.Mathlib.Decide.{decLt}
-use lib.ListN.{length, getD, replicate, length-append, length-map, length-replicate, List·getD-eq-default}
+use lib.ListN.{length, getD, replicate, length-append, length-replicate, List·getD-eq-default}
 use lib.Seq.{ext-getD}
 use Rattle.cell.specs.declared.Record.{Record}
 use Rattle.cell.specs.declared.Cell.{Cell}
@@ -15,48 +15,37 @@ use Rattle.checking.specs.declared.Verdict.the-variants.{Pass}
 use Rattle.checking.specs.Refusals.{firstOf}
 use Rattle.checking.specs.Checking.{netlistStages}
 use Rattle.netlist.specs.Areas.{wordRecord, recordsIn, wordsIn, orderAt, Within}
-use Rattle.netlist.specs.Shape.{visitMut}
 use Rattle.netlist.specs.Netlist.{Netlist, netlistOf}
 use Rattle.netlist.proofs.Frames.{within-then, within-wider, tabulate-same, words-kept, record-kept}
 use Rattle.order.specs.Orders.{bitDeps, topoSort}
 use Rattle.order.specs.Code.{Sorts}
 use Rattle.order.proofs.Words.{tabulate-replicate}
-use Rattle.design.specs.Queue.{netIn, unchanged, mapNetNew, applied, findNewCell}
+use Rattle.design.specs.Queue.{netIn, unchanged, applied, findNewCell}
 use Rattle.design.specs.Compact.{compact}
 use Rattle.design.specs.Words.{netlistIn, replacedIn}
 use Rattle.design.proofs.Words.{cells-length, bits-length, bit-at}
-use Rattle.merge.specs.Words.{numbererIn}
-use Rattle.rewrite.specs.Rewriter.{Rewriter, begun}
+use Rattle.numberer.specs.Words.{numbererIn}
+use Rattle.numberer.proofs.Inserting.{entered-none, mixed-none}
+use Rattle.rewrite.specs.Rewriter.{begun}
 use Rattle.rewrite.specs.Rewrite.{Run, ran, run, runItems, slotsOf, compacted, rewrite}
 use Rattle.order_laws.specs.Ordered.{has, OnceAfter, FedAfter}
-use Rattle.rewrite_laws.proofs.Running.{State, RunOk, begun-state}
+use Rattle.order_laws.proofs.Lists.{getD-padded}
+use Rattle.order_laws.proofs.Queue.{applied-length}
+use Rattle.rewrite_laws.proofs.Running.{RunOk, begun-state}
+use Rattle.rewrite_laws.proofs.Keeping.{State}
 use Rattle.accepted_laws.proofs.Accepted.{accepted-wired, accepted-each, accepted-fed, accepted-run}
-use Rattle.rewriter.specs.declared.Extent.{Extent}
+use Rattle.rewriter_state.specs.declared.Extent.{Extent}
 use Rattle.rewriter.specs.declared.Step.{Step}
 use Rattle.rewriter.specs.declared.Step.the-variants as step
 use Rattle.rewriter.specs.declared.Rewritten.the-variants as rewritten
-use Rattle.rewriter.specs.Words.{rewriterIn, Held}
-use Rattle.rewriter.specs.Cycle.{Running}
-use Rattle.rewriter.specs.Run.{Went, Goes, ReadyItems, RunsItems, first, Begins, ClearsStamps, AppliesAll, Rewrites}
-use Rattle.rewriter.proofs.Items.{between-frame, few-slots}
-
--- zeros behind a list of numbers show nothing new
-zeros-at : (k i : ℕ) → getD {A = ℕ} (replicate k 0) i 0 ≡ 0
-zeros-at zero i = refl
-zeros-at (suc k) zero = refl
-zeros-at (suc k) (suc i) = zeros-at k i
-
-padded-at : (xs : List ℕ) (k i : ℕ) → getD (xs ++ replicate k 0) i 0 ≡ getD xs i 0
-padded-at [] k i = zeros-at k i
-padded-at (x ∷ xs) k zero = refl
-padded-at (x ∷ xs) k (suc i) = padded-at xs k i
+use Rattle.rewriter_state.specs.Words.{rewriterIn, Held, ClearsStamps}
+use Rattle.rewriter_cycle.specs.Cycle.{Running}
+use Rattle.rewriter_cycle.proofs.Passes.{held-few}
+use Rattle.rewriter.specs.Run.{Went, Goes, ReadyItems, RunsItems, first, Begins, AppliesAll, Rewrites}
+use Rattle.rewriter.proofs.Items.{between-frame}
 
 netlist-of : (d : Netlist) (cs : List Cell) (bits : List ℕ) → d .cells ≡ cs → d .bits ≡ bits → d ≡ record { cells = cs; bits = bits }
 netlist-of d cs bits p q = λ i. record { cells = p i; bits = q i }
-
-applied-length : (r : Rewriter) → length (applied (r .design)) ≡ length (r .design .cells)
-unfolding applied
-applied-length r = length-map (r .design .cells) (visitMut (mapNetNew (r .design .replaced)))
 
 -- the words after sorting, and with nothing replaced and nothing stamped
 module _ (n : ℕ) (ws₀ ws₁ ws₂ ws₃ : List ℕ) (count : ℕ) (sorted : Sorts n ws₀ ws₁ count) (blank : ClearsStamps n ws₂ ws₃) (kept : Within 6144 7168 ws₁ ws₂)
@@ -133,8 +122,8 @@ module _ (n : ℕ) (ws₀ ws₃ : List ℕ) (count : ℕ) (b : Begins n ws₀ ws
     fit = omega arith;
     timed = omega arith;
     cached = omega arith;
-    entries = record { each = λ i h. absurd (omega arith) };
-    mixed = record { each = λ i h. absurd (omega arith) };
+    entries = entered-none ws₃;
+    mixed = mixed-none ws₃;
     single = λ i h l. absurd (omega arith);
   }
 
@@ -151,7 +140,7 @@ module _ (n : ℕ) (ws₀ ws₃ : List ℕ) (count : ℕ) (b : Begins n ws₀ ws
         held = held-first;
         ticket = cs;
         wired = accepted-wired rs accepted;
-        state = subst (State cs []) (sym state-here) (begun-state cs (accepted-wired rs accepted));
+        state = subst (State cs []) (sym state-here) (begun-state cs);
         once = subst (OnceAfter []) (sym order-here) (accepted-each rs accepted .once);
         fed = subst (FedAfter (length cs) (bitDeps cs) []) (sym order-here) (accepted-fed rs accepted);
         small = λ s h. accepted-each rs accepted .small s (ap (has s) (sym order-here) ∙ h);
@@ -186,7 +175,7 @@ module _ (n : ℕ) (ws₀ ws₃ : List ℕ) (count : ℕ) (b : Begins n ws₀ ws
         held = went .left .held;
         ticket = cs;
         before = topoSort cs;
-        state = subst (RunOk cs (topoSort cs)) (ap (run findNewCell) (sym cells-are) ∙ run-ran) (accepted-run rs accepted) (few-slots x ws₄ cs (went .left .held));
+        state = subst (RunOk cs (topoSort cs)) (ap (run findNewCell) (sym cells-are) ∙ run-ran) (accepted-run rs accepted) (held-few x ws₄ (went .left .held));
       }
 
       -- bit numbers: the ticket's, and then zeros
@@ -207,9 +196,9 @@ module _ (n : ℕ) (ws₀ ws₃ : List ℕ) (count : ℕ) (b : Begins n ws₀ ws
           let k : ℕ = length (applied (rewriterIn x ws₄ .design)) - length bits in
           let more : n ≤ x .slots = went .left .slots in
           ext-getD 0 (netlistIn (x .slots) ws₄ .bits) (bits ++ replicate k 0)
-          (bits-length (x .slots) ws₄ ∙ sym (length-append bits (replicate k 0) ∙ omega (arith, more, length-replicate {A = ℕ} k 0, bits-length n ws₀, applied-length (rewriterIn x ws₄), taken-is)))
+          (bits-length (x .slots) ws₄ ∙ sym (length-append bits (replicate k 0) ∙ omega (arith, more, length-replicate {A = ℕ} k 0, bits-length n ws₀, applied-length (rewriterIn x ws₄ .design), taken-is)))
           (λ i h. let l : i < x .slots = omega (arith, h, bits-length (x .slots) ws₄) in
-          bit-at (x .slots) ws₄ i l ∙ bit-same i l (decLt i n) ∙ sym (padded-at bits k i))
+          bit-at (x .slots) ws₄ i l ∙ bit-same i l (decLt i n) ∙ sym (getD-padded bits k i 0))
 
       pub run-rewritten : (ws₅ : List ℕ) → AppliesAll x ws₄ ws₅ → Rewrites n ws₀ ws₅ (rewritten.To (x .slots))
       unfolding rewrite

@@ -1,3 +1,1 @@
-pub mod Words
-pub mod Cycle
 pub mod Run

@@ -15,15 +15,15 @@ use Rattle.design.specs.Words.{netlistIn}
 use Rattle.rewrite.specs.Rewriter.{begun}
 use Rattle.rewrite.specs.Rewrite.{Run, ran, addCell, processCell, bitDone, cellDone, run, runItem, runItems, slotsOf, rewrite}
 use Rattle.order_laws.specs.Ordered.{has, OnceAfter, FedAfter}
-use Rattle.aig_laws.specs.Reads.{Nets}
-use Rattle.rewrite_laws.proofs.Running.{Wired, State}
-use Rattle.rewriter.specs.declared.Extent.{Extent}
+use Rattle.order_laws.specs.Members.{All, Wired}
+use Rattle.rewrite_laws.proofs.Keeping.{State}
+use Rattle.rewriter_state.specs.declared.Extent.{Extent}
 use Rattle.rewriter.specs.declared.Step.{Step}
 use Rattle.rewriter.specs.declared.Step.the-variants as step
 use Rattle.rewriter.specs.declared.Rewritten.{Rewritten}
 use Rattle.rewriter.specs.declared.Rewritten.the-variants as rewritten
-use Rattle.rewriter.specs.Words.{stampsAt, rewriterIn, Held}
-use Rattle.rewriter.specs.Cycle.{Running, Ready}
+use Rattle.rewriter_state.specs.Words.{stampsAt, rewriterIn, Held, ReadySlot}
+use Rattle.rewriter_cycle.specs.Cycle.{Running, Ready}
 
 -- what items leave alone: the ticket's bit numbers, the order
 pub record Between (x x′ : Extent) (ws ws′ : List ℕ) : Type 0 where
@@ -46,22 +46,20 @@ Goes k x ws ws′ y (step.On x′) = Went k x x′ ws ws′ y
 Goes k x ws ws′ y step.Full = (1024 < slotsOf y) × Within 0 13312 ws ws′
 
 -- what is asked: of a slot with its mapped cell; of an item, which comes after what it depends on; and of the first k items of the order,
--- before which nothing was done. There is room for a stamp each
+-- before which nothing was done, with room for a stamp each
 pub record ReadyCell (x : Extent) (s : ℕ) (ws : List ℕ) (c : Cell) : Type 0 where
   pub ready : Ready x ws c
-  pub small : s < x .tickets
-  pub room : x .clock < x .slots
+  pub slot : ReadySlot x s ws
 
 abbrev pub WiredAll : List Cell → Type 0
-WiredAll cs = (i : ℕ) → i < length cs → Nets (Wired cs) (visit (cellIn cs i))
+WiredAll cs = (i : ℕ) → i < length cs → All (Wired cs) (visit (cellIn cs i))
 
 pub record ReadyItem (x : Extent) (s : ℕ) (ws : List ℕ) : Type 0 where
   pub running : Running x ws
   pub wired : WiredAll (running .ticket)
-  pub small : s < x .tickets
+  pub slot : ReadySlot x s ws
   pub new : has s (running .before) ≡ false
   pub fed : (d : ℕ) → has d (bitDeps (running .ticket) s) ≡ true → d < length (running .ticket) → has d (running .before) ≡ true
-  pub room : x .clock < x .slots
 
 pub record ReadyItems (x : Extent) (k : ℕ) (ws : List ℕ) : Type 0 where
   pub held : Held x ws
@@ -97,17 +95,6 @@ pub record Begins (n : ℕ) (ws ws′ : List ℕ) (r : ℕ) : Type 0 where
   pub state : rewriterIn (first n) ws′ ≡ begun (netlistIn n ws .cells)
   pub bits : (i : ℕ) → i < n → wordRecord ws′ i .bit ≡ wordRecord ws i .bit
   pub frame : Within 0 13312 ws ws′
-
--- no slot is stamped
-pub record ClearsStamps (n : ℕ) (ws ws′ : List ℕ) : Type 0 where
-  pub zeros : (i : ℕ) → i < n → getD ws′ (stampsAt + i) 0 ≡ 0
-  pub frame : Within stampsAt 8192 ws ws′
-
--- the nets of added slots stand for themselves, and the ticket's are replaced as they were
-pub record Stands (x : Extent) (ws ws′ : List ℕ) : Type 0 where
-  pub old : (i : ℕ) → i < x .tickets → getD ws′ (replacedAt + i) 0 ≡ getD ws (replacedAt + i) 0
-  pub own : (i : ℕ) → x .tickets ≤ i → i < x .slots → getD ws′ (replacedAt + i) 0 ≡ i + 2
-  pub frame : Within replacedAt stampsAt ws ws′
 
 -- the changes are applied
 pub record AppliesAll (x : Extent) (ws ws′ : List ℕ) : Type 0 where

@@ -1,12 +1,10 @@
 // `Rewriter::run`: the items of the bit order one after another, and the changes applied.
-use crate::Added;
-use crate::Extent;
-use crate::Processed;
 use crate::Rewritten;
 use crate::Step;
-use crate::cycle;
-use crate::state;
 use cell::Cell;
+use rewriter_cycle::Processed;
+use rewriter_state::Added;
+use rewriter_state::Extent;
 use value::Slot;
 ghost use mathlib.Core.Path.{_≡_};
 ghost use Prim.Native.Nat.{_≤_, _<_};
@@ -18,15 +16,11 @@ ghost use Rattle.design.specs.Queue.{mapNetNew};
 ghost use Rattle.checking.specs.declared.Verdict.the-variants.{Pass};
 ghost use Rattle.checking.specs.Refusals.{firstOf};
 ghost use Rattle.checking.specs.Checking.{netlistStages};
-ghost use Rattle.rewriter.specs.Words.{rewriterIn, Held};
-ghost use Rattle.rewriter.specs.Cycle.{Running};
-ghost use Rattle.rewriter.specs.Run.{ReadyCell, ReadyItem, ReadyItems, RunsBit, RunsCell, RunsItem, RunsItems, ClearsStamps, Stands, AppliesAll, Begins, Rewrites};
+ghost use Rattle.rewriter_state.specs.Words.{rewriterIn};
+ghost use Rattle.rewriter_cycle.specs.Cycle.{Running};
+ghost use Rattle.rewriter.specs.Run.{ReadyCell, ReadyItem, ReadyItems, RunsBit, RunsCell, RunsItem, RunsItems, AppliesAll, Begins, Rewrites};
 
 const ORDER: usize = 5120;
-
-const REPLACED: usize = 6144;
-
-const STAMPS: usize = 7168;
 
 fn is_splittable(c: Cell) -> bool
     ensures { λ r. ⌜ r ≡ isSplittable c ⌝ }
@@ -58,8 +52,8 @@ fn run_bit(work: &mut [u32], x: Extent, s: Slot, c: Cell) -> Step
     requires { ⌜ ReadyCell x (s .0) (now work) c ⌝ }
     ensures { λ r. ⌜ RunsBit x (s .0) (now (work .entry)) (now (work .exit)) c r ⌝ }
 {
-    match cycle::add_cell(work, x, c) {
-        Added::At(n, y) => Step::On(state::replace(work, y, s, n)),
+    match rewriter_cycle::add_cell(work, x, c) {
+        Added::At(n, y) => Step::On(rewriter_state::replace(work, y, s, n)),
         Added::Full => Step::Full,
     }
 }
@@ -69,10 +63,10 @@ fn run_cell(work: &mut [u32], x: Extent, s: Slot, c: Cell) -> Step
     requires { ⌜ ReadyCell x (s .0) (now work) c ⌝ }
     ensures { λ r. ⌜ RunsCell x (s .0) (now (work .entry)) (now (work .exit)) c r ⌝ }
 {
-    match cycle::process_cell(work, x, c) {
-        Processed::None(y) => Step::On(state::stay(work, y, s, c)),
-        Processed::Cell(d, y) => Step::On(state::become_cell(work, y, s, d)),
-        Processed::Value(n, y) => Step::On(state::replace(work, y, s, n)),
+    match rewriter_cycle::process_cell(work, x, c) {
+        Processed::None(y) => Step::On(rewriter_state::stay(work, y, s, c)),
+        Processed::Cell(d, y) => Step::On(rewriter_state::become_cell(work, y, s, d)),
+        Processed::Value(n, y) => Step::On(rewriter_state::replace(work, y, s, n)),
         Processed::Full => Step::Full,
     }
 }
@@ -109,37 +103,12 @@ fn run_items(work: &mut [u32], begun: Extent, count: u32) -> Step
     Step::On(x)
 }
 
-// Takes the stamps off the slots.
-fn clear_stamps(work: &mut [u32], n: u32)
-    requires { ⌜ 16384 ≤ length (now work) ⌝ }
-    requires { ⌜ n ≤ 1024 ⌝ }
-    ensures { λ _. ⌜ ClearsStamps n (now (work .entry)) (now (work .exit)) ⌝ }
-{
-    let mut s: u32 = 0;
-    while s < n {
-        cell::put(work, STAMPS + (s as usize), 0);
-        s += 1;
-    }
-}
-
-// The nets of cells that were added stand for themselves.
-fn stand(work: &mut [u32], x: Extent)
-    requires { ⌜ Held x (now work) ⌝ }
-    ensures { λ _. ⌜ Stands x (now (work .entry)) (now (work .exit)) ⌝ }
-{
-    let mut s = x.tickets;
-    while s < x.slots {
-        cell::put(work, REPLACED + (s as usize), s + 2);
-        s += 1;
-    }
-}
-
 // Puts the replacements into all slots.
 fn apply_all(work: &mut [u32], x: Extent)
     requires { ⌜ Running x (now work) ⌝ }
     ensures { λ _. ⌜ AppliesAll x (now (work .entry)) (now (work .exit)) ⌝ }
 {
-    stand(work, x);
+    rewriter_state::stand(work, x);
     design::queue::apply(work, x.slots);
 }
 
@@ -151,7 +120,7 @@ fn begin(work: &mut [u32], n: u32) -> u32
 {
     let count = order::topo_sort(work, n);
     design::queue::unchanged(work, n);
-    clear_stamps(work, n);
+    rewriter_state::clear_stamps(work, n);
     count
 }
 

@@ -1,25 +1,26 @@
-use Rattle.rewriter.proofs.Standing.{applies-all}
+-- `rewriter::run::apply_all` meets its contract. Assumes nothing.
+use Rattle.rewriter.proofs.Applying.{applies-all}
 use borrow.Author.Needs.{needs}
 use Rattle.rewriter.proofs.run.apply_all.Statement.{statement}
 use Rattle.rewriter.proofs.run.apply_all.Tie as tie
 use Rattle.rewriter.proofs.run.apply_all.Reads as reads
 use Rattle.rewriter.proofs.run.apply_all.Lts as lts
 use Rattle.design.proofs.queue.apply.Reads as apply-reads
-use Rattle.rewriter.proofs.run.stand.Reads as stand-reads
+use Rattle.rewriter_state.proofs.stand.Reads as stand-reads
 
--- src/run.rt:74:5
+-- src/run.rt:111:5
 stand-requires : tie.Need-stand-requires
 stand-requires c κs = search needs
 
--- src/run.rt:75:5
+-- src/run.rt:112:5
 apply-requires : tie.Need-apply-requires
 apply-requires c κs = search needs
 
--- src/run.rt:70:1
+-- src/run.rt:107:1
 same-length : tie.Need-same-length
 same-length c = search needs
 
--- src/run.rt:70:1
+-- src/run.rt:107:1
 returns : tie.Need-returns
 returns c = search applies-all
 

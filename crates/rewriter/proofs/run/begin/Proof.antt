@@ -1,3 +1,4 @@
+-- `rewriter::run::begin` meets its contract. Assumes nothing.
 use Rattle.rewriter.proofs.Runs.{run-begins}
 use borrow.Author.Needs.{needs}
 use Rattle.rewriter.proofs.run.begin.Statement.{statement}
@@ -6,25 +7,25 @@ use Rattle.rewriter.proofs.run.begin.Reads as reads
 use Rattle.rewriter.proofs.run.begin.Lts as lts
 use Rattle.design.proofs.queue.unchanged.Reads as unchanged-reads
 use Rattle.order.proofs.topo_sort.Reads as topo-sort-reads
-use Rattle.rewriter.proofs.run.clear_stamps.Reads as clear-stamps-reads
+use Rattle.rewriter_state.proofs.clear_stamps.Reads as clear-stamps-reads
 
--- src/run.rt:152:9
+-- src/run.rt:121:9
 topo-sort-requires : tie.Need-topo-sort-requires
 topo-sort-requires c κs = search needs
 
--- src/run.rt:153:5
+-- src/run.rt:122:5
 unchanged-requires : tie.Need-unchanged-requires
 unchanged-requires c κs = search needs
 
--- src/run.rt:154:5
+-- src/run.rt:123:5
 clear-stamps-requires : tie.Need-clear-stamps-requires
 clear-stamps-requires c κs = search needs
 
--- src/run.rt:147:1
+-- src/run.rt:116:1
 same-length : tie.Need-same-length
 same-length c = search needs
 
--- src/run.rt:147:1
+-- src/run.rt:116:1
 returns : tie.Need-returns
 returns c = search run-begins
 

@@ -1,3 +1,4 @@
+-- `rewriter::run::mapped_cell` meets its contract. Assumes nothing.
 use Rattle.rewriter.proofs.Items.{mapped-is}
 use borrow.Author.Needs.{needs}
 use Rattle.rewriter.proofs.run.mapped_cell.Statement.{statement}
@@ -9,23 +10,23 @@ use Rattle.design.proofs.queue.replaced_record.Reads as replaced-record-reads
 use Rattle.design.proofs.visit.plain.Reads as plain-reads
 use Rattle.netlist.proofs.record_in.Reads as record-in-reads
 
--- src/run.rt:52:36
+-- src/run.rt:46:36
 record-in-requires : tie.Need-record-in-requires
 record-in-requires c κs = search needs
 
--- src/run.rt:52:9
+-- src/run.rt:46:9
 plain-requires : tie.Need-plain-requires
 plain-requires c κs = search needs
 
--- src/run.rt:53:19
+-- src/run.rt:47:19
 replaced-record-requires : tie.Need-replaced-record-requires
 replaced-record-requires c κs = search needs
 
--- src/run.rt:53:5
+-- src/run.rt:47:5
 cell-of-requires : tie.Need-cell-of-requires
 cell-of-requires c κs = search needs
 
--- src/run.rt:48:1
+-- src/run.rt:42:1
 returns : tie.Need-returns
 returns c = search mapped-is
 

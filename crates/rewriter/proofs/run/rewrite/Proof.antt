@@ -1,3 +1,4 @@
+-- `rewriter::run::rewrite` meets its contract. Assumes nothing.
 use Rattle.rewriter.proofs.Runs.{run-ready, run-running, run-rewritten, run-full}
 use borrow.Author.Needs.{needs}
 use Rattle.rewriter.proofs.run.rewrite.Statement.{statement}
@@ -8,39 +9,39 @@ use Rattle.rewriter.proofs.run.apply_all.Reads as apply-all-reads
 use Rattle.rewriter.proofs.run.begin.Reads as begin-reads
 use Rattle.rewriter.proofs.run.run_items.Reads as run-items-reads
 
--- src/run.rt:165:9
+-- src/run.rt:134:9
 begin-requires : tie.Need-begin-requires
 begin-requires c κs = search needs
 
--- src/run.rt:172:11
+-- src/run.rt:141:11
 run-items-requires : tie.Need-run-items-requires
 run-items-requires c κs = search run-ready
 
--- src/run.rt:173:18
+-- src/run.rt:142:18
 enum-known-x : tie.Need-enum-known-x
 enum-known-x c = search needs
 
--- src/run.rt:174:13
+-- src/run.rt:143:13
 apply-all-requires : tie.Need-apply-all-requires
 apply-all-requires c κs = search run-running
 
--- src/run.rt:177:23
+-- src/run.rt:146:23
 enum-told : tie.Need-enum-told
 enum-told c = search needs
 
--- src/run.rt:159:1
+-- src/run.rt:128:1
 same-length : tie.Need-same-length
 same-length c = search needs
 
--- src/run.rt:159:1
+-- src/run.rt:128:1
 returns : tie.Need-returns
 returns c = search run-rewritten
 
--- src/run.rt:159:1
+-- src/run.rt:128:1
 same-length-2 : tie.Need-same-length-2
 same-length-2 c = search needs
 
--- src/run.rt:159:1
+-- src/run.rt:128:1
 returns-2 : tie.Need-returns-2
 returns-2 c = search run-full
 

@@ -1,41 +1,42 @@
-use Rattle.rewriter.proofs.Items.{added-held, added-room, added-small, bit-on, bit-full}
+-- `rewriter::run::run_bit` meets its contract. Assumes nothing.
+use Rattle.rewriter.proofs.Items.{added-ready, bit-on, bit-full}
 use borrow.Author.Needs.{needs}
 use Rattle.rewriter.proofs.run.run_bit.Statement.{statement}
 use Rattle.rewriter.proofs.run.run_bit.Tie as tie
 use Rattle.rewriter.proofs.run.run_bit.Reads as reads
 use Rattle.rewriter.proofs.run.run_bit.Lts as lts
-use Rattle.rewriter.proofs.cycle.add_cell.Reads as add-cell-reads
-use Rattle.rewriter.proofs.state.replace.Reads as replace-reads
+use Rattle.rewriter_cycle.proofs.add_cell.Reads as add-cell-reads
+use Rattle.rewriter_state.proofs.replace.Reads as replace-reads
 
--- src/run.rt:61:11
+-- src/run.rt:55:11
 add-cell-requires : tie.Need-add-cell-requires
 add-cell-requires c κs = search needs
 
--- src/run.rt:62:19
+-- src/run.rt:56:19
 enum-known-n : tie.Need-enum-known-n
 enum-known-n c = search needs
 
--- src/run.rt:62:37
+-- src/run.rt:56:37
 replace-requires : tie.Need-replace-requires
-replace-requires c κs = (search added-held, (search added-room, search added-small))
+replace-requires c κs = search added-ready
 
--- src/run.rt:63:24
+-- src/run.rt:57:24
 enum-told : tie.Need-enum-told
 enum-told c = search needs
 
--- src/run.rt:57:1
+-- src/run.rt:51:1
 same-length : tie.Need-same-length
 same-length c = search needs
 
--- src/run.rt:57:1
+-- src/run.rt:51:1
 returns : tie.Need-returns
 returns c = search bit-on
 
--- src/run.rt:57:1
+-- src/run.rt:51:1
 same-length-2 : tie.Need-same-length-2
 same-length-2 c = search needs
 
--- src/run.rt:57:1
+-- src/run.rt:51:1
 returns-2 : tie.Need-returns-2
 returns-2 c = search bit-full
 

@@ -1,75 +1,76 @@
-use Rattle.rewriter.proofs.Items.{none-held, none-room, none-small, none-on, cell-held, cell-room, cell-small, cell-on, value-held, value-room, value-small, value-on, cell-full}
+-- `rewriter::run::run_cell` meets its contract. Assumes nothing.
+use Rattle.rewriter.proofs.Items.{none-ready, none-on, cell-ready, cell-on, value-ready, value-on, cell-full}
 use borrow.Author.Needs.{needs}
 use Rattle.rewriter.proofs.run.run_cell.Statement.{statement}
 use Rattle.rewriter.proofs.run.run_cell.Tie as tie
 use Rattle.rewriter.proofs.run.run_cell.Reads as reads
 use Rattle.rewriter.proofs.run.run_cell.Lts as lts
-use Rattle.rewriter.proofs.cycle.process_cell.Reads as process-cell-reads
-use Rattle.rewriter.proofs.state.become_cell.Reads as become-cell-reads
-use Rattle.rewriter.proofs.state.replace.Reads as replace-reads
-use Rattle.rewriter.proofs.state.stay.Reads as stay-reads
+use Rattle.rewriter_cycle.proofs.process_cell.Reads as process-cell-reads
+use Rattle.rewriter_state.proofs.become_cell.Reads as become-cell-reads
+use Rattle.rewriter_state.proofs.replace.Reads as replace-reads
+use Rattle.rewriter_state.proofs.stay.Reads as stay-reads
 
--- src/run.rt:72:11
+-- src/run.rt:66:11
 process-cell-requires : tie.Need-process-cell-requires
 process-cell-requires c κs = search needs
 
--- src/run.rt:73:25
+-- src/run.rt:67:25
 enum-known-y : tie.Need-enum-known-y
 enum-known-y c = search needs
 
--- src/run.rt:73:40
+-- src/run.rt:67:40
 stay-requires : tie.Need-stay-requires
-stay-requires c κs = (search none-held, (search none-room, search none-small))
+stay-requires c κs = search none-ready
 
--- src/run.rt:74:25
+-- src/run.rt:68:25
 enum-known-d : tie.Need-enum-known-d
 enum-known-d c = search needs
 
--- src/run.rt:74:43
+-- src/run.rt:68:43
 become-cell-requires : tie.Need-become-cell-requires
-become-cell-requires c κs = (search cell-held, (search cell-room, search cell-small))
+become-cell-requires c κs = search cell-ready
 
--- src/run.rt:75:26
+-- src/run.rt:69:26
 enum-known-n : tie.Need-enum-known-n
 enum-known-n c = search needs
 
--- src/run.rt:75:44
+-- src/run.rt:69:44
 replace-requires : tie.Need-replace-requires
-replace-requires c κs = (search value-held, (search value-room, search value-small))
+replace-requires c κs = search value-ready
 
--- src/run.rt:76:28
+-- src/run.rt:70:28
 enum-told : tie.Need-enum-told
 enum-told c = search needs
 
--- src/run.rt:68:1
+-- src/run.rt:62:1
 same-length : tie.Need-same-length
 same-length c = search needs
 
--- src/run.rt:68:1
+-- src/run.rt:62:1
 returns : tie.Need-returns
 returns c = search none-on
 
--- src/run.rt:68:1
+-- src/run.rt:62:1
 same-length-2 : tie.Need-same-length-2
 same-length-2 c = search needs
 
--- src/run.rt:68:1
+-- src/run.rt:62:1
 returns-2 : tie.Need-returns-2
 returns-2 c = search cell-on
 
--- src/run.rt:68:1
+-- src/run.rt:62:1
 same-length-3 : tie.Need-same-length-3
 same-length-3 c = search needs
 
--- src/run.rt:68:1
+-- src/run.rt:62:1
 returns-3 : tie.Need-returns-3
 returns-3 c = search value-on
 
--- src/run.rt:68:1
+-- src/run.rt:62:1
 same-length-4 : tie.Need-same-length-4
 same-length-4 c = search needs
 
--- src/run.rt:68:1
+-- src/run.rt:62:1
 returns-4 : tie.Need-returns-4
 returns-4 c = search cell-full
 

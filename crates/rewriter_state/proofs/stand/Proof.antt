@@ -1,0 +1,73 @@
+-- `rewriter_state::stand` meets its contract. Assumes nothing.
+use Rattle.rewriter_state.proofs.Standing.{Standing, standing-none, standing-more, standing-all, standing-fits}
+use Prim.Native.Nat.{_-_}
+use native.Mathlib.Omega.{arith}
+use borrow.Author.Needs.{needs}
+use Rattle.rewriter_state.proofs.stand.Statement.{statement}
+use Rattle.rewriter_state.proofs.stand.Tie as tie
+use Rattle.rewriter_state.proofs.stand.Reads as reads
+use Rattle.rewriter_state.proofs.stand.Lts as lts
+use Rattle.cell.proofs.put.Reads as put-reads
+
+abbrev Inv-loop : tie.InvT-loop
+Inv-loop work₀ x s₀ work s = Standing x work₀ work s
+
+abbrev μ-loop : tie.MeasureT-loop
+μ-loop work₀ x s₀ work s = x .slots - s
+
+-- src/lib.rt:174:5
+loop-holds : tie.Need-loop-holds Inv-loop μ-loop
+loop-holds c = search standing-none
+
+-- src/lib.rt:175:37
+cast-put : tie.Need-cast-put Inv-loop μ-loop
+cast-put c = search needs
+
+-- src/lib.rt:175:25
+add-put : tie.Need-add-put Inv-loop μ-loop
+add-put c = omega arith
+
+-- src/lib.rt:175:50
+add-put-2 : tie.Need-add-put-2 Inv-loop μ-loop
+add-put-2 c = omega arith
+
+-- src/lib.rt:175:9
+put-requires : tie.Need-put-requires Inv-loop μ-loop
+put-requires c κs = search needs
+
+-- src/lib.rt:176:9
+add-s : tie.Need-add-s Inv-loop μ-loop
+add-s c = omega arith
+
+-- src/lib.rt:174:5
+loop-less : tie.Need-loop-less Inv-loop μ-loop
+loop-less c = omega arith
+
+-- src/lib.rt:174:5
+loop-again : tie.Need-loop-again Inv-loop μ-loop
+loop-again c = search standing-more
+
+-- src/lib.rt:169:1
+same-length : tie.Need-same-length Inv-loop μ-loop
+same-length c = search needs
+
+-- src/lib.rt:169:1
+returns : tie.Need-returns Inv-loop μ-loop
+returns c = search standing-all
+
+pub stand-spec : {M : Type 1} → statement M
+stand-spec =
+    tie.close
+    (tie.spec
+    Inv-loop
+    μ-loop
+    loop-holds
+    cast-put
+    add-put
+    add-put-2
+    put-requires
+    add-s
+    loop-less
+    loop-again
+    same-length
+    returns)
