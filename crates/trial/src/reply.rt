@@ -33,12 +33,10 @@ fn number_of(
     answer: &mut [u32; 8],
 ) -> u32 {
     match call {
-        Call::Levels => {
-            ticket::levels_call::cabbagetier_levels(ticket, levels, work, reply, answer)
-        }
-        Call::Compact => ticket::compact::cabbagetier_compact(ticket, work, reply, answer),
-        Call::Merge => ticket::merge_call::cabbagetier_merge(ticket, work, reply, answer),
-        Call::Rewrite => ticket::rewrite_call::cabbagetier_rewrite(ticket, work, reply, answer),
+        Call::Levels => ticket::cabbagetier_levels(ticket, levels, work, reply, answer),
+        Call::Compact => ticket::cabbagetier_compact(ticket, work, reply, answer),
+        Call::Merge => ticket::cabbagetier_merge(ticket, work, reply, answer),
+        Call::Rewrite => ticket::cabbagetier_rewrite(ticket, work, reply, answer),
     }
 }
 

@@ -1,0 +1,37 @@
+-- `check_call::tell_checked` meets its contract. Assumes nothing.
+use borrow.Author.Needs.{needs}
+use Rattle.check_call.proofs.tell_checked.Statement.{statement}
+use Rattle.check_call.proofs.tell_checked.Tie as tie
+use Rattle.check_call.proofs.tell_checked.Reads as reads
+use Rattle.check_call.proofs.tell_checked.Lts as lts
+use Rattle.delivery.proofs.accept.Reads as accept-reads
+use Rattle.delivery.proofs.refuse.Reads as refuse-reads
+
+-- src/lib.rt:45:27
+enum-known-k : tie.Need-enum-known-k
+enum-known-k c = search needs
+
+-- src/lib.rt:45:46
+accept-requires : tie.Need-accept-requires
+accept-requires c κs = search needs
+
+-- src/lib.rt:46:26
+enum-known-k-2 : tie.Need-enum-known-k-2
+enum-known-k-2 c = search needs
+
+-- src/lib.rt:46:32
+refuse-requires : tie.Need-refuse-requires
+refuse-requires c κs = search needs
+
+-- src/lib.rt:40:1
+returns : tie.Need-returns
+returns c = rw (c .before .before .before .k .given .1) (c .accept .ensures)
+
+-- src/lib.rt:40:1
+returns-2 : tie.Need-returns-2
+returns-2 c = rw (c .before .before .before .k2 .given .1) (c .refuse .ensures)
+
+pub tell-checked-spec : {M : Type 1} → statement M
+tell-checked-spec =
+    tie.close
+    (tie.spec enum-known-k accept-requires enum-known-k-2 refuse-requires returns returns-2)

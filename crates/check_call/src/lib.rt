@@ -1,0 +1,48 @@
+// Checking: refusals 1 to 8, or the counts of an accepted ticket.
+use calls::Checked;
+use checking::Refusal;
+use checking::Verdict;
+ghost use mathlib.Core.Path.{_≡_};
+ghost use Prim.Native.Nat.{_/_, _≤_};
+ghost use lib.ListN.{length};
+ghost use Rattle.cell.specs.Records.{recordsOf};
+ghost use Rattle.checking.specs.Checking.{gateCount};
+ghost use Rattle.calls.specs.Work.{cleared};
+ghost use Rattle.calls.specs.Answers.{checkFigures, wordsOf};
+ghost use Rattle.calls.specs.Calls.{checkAnswer};
+
+// The counts of a ticket that passed.
+fn accepted(ticket: &[u8]) -> Checked
+    requires { ⌜ length (now ticket) / 16 ≤ 512 ⌝ }
+    ensures { λ r. ⌜ r ≡ Checked.Accepted (length (now (ticket .entry)) / 16) (gateCount (recordsOf (now (ticket .entry)))) ⌝ }
+{
+    let n = (ticket.len() / 16) as u32;
+    Checked::Accepted(n, checking::gate_count(ticket, n))
+}
+
+// Checks a ticket: refusals 1 to 8, or its record count and gate count.
+pub fn check(ticket: &[u8], work: &mut [u32]) -> Checked
+    ensures { λ r. ⌜ r ≡ checkAnswer (length (now (work .entry))) (now (ticket .entry)) ⌝ }
+    ensures { λ _. ⌜ now (work .exit) ≡ cleared (now (work .entry)) ⌝ }
+{
+    if work.len() < 16384 {
+        return Checked::Refused(Refusal::ShortWork);
+    }
+    let v = checking::verdict_of(work, ticket);
+    delivery::wipe(work);
+    match v {
+        Verdict::Refused(x) => Checked::Refused(x),
+        Verdict::Pass => accepted(ticket),
+    }
+}
+
+// The answer words, and the number.
+pub fn tell_checked(k: Checked, answer: &mut [u32; 8]) -> u32
+    ensures { λ r. ⌜ r ≡ checkFigures k .number ⌝ }
+    ensures { λ _. ⌜ now (answer .exit) ≡ wordsOf (checkFigures k) ⌝ }
+{
+    match k {
+        Checked::Accepted(records, gates) => delivery::accept(answer, records, gates),
+        Checked::Refused(x) => delivery::refuse(answer, x),
+    }
+}

@@ -1,0 +1,13 @@
+-- `delivery::accept` meets its contract. Assumes nothing.
+use mathlib.Core.Path.{refl}
+use Rattle.delivery.proofs.accept.Statement.{statement}
+use Rattle.delivery.proofs.accept.Tie as tie
+use Rattle.delivery.proofs.accept.Reads as reads
+use Rattle.delivery.proofs.accept.Lts as lts
+
+-- src/lib.rt:43:1
+returns : tie.Need-returns
+returns c = (refl, refl)
+
+pub accept-spec : {M : Type 1} → statement M
+accept-spec = tie.close (tie.spec returns)

@@ -1,0 +1,65 @@
+-- `delivery::deliver` meets its contract. Assumes nothing.
+use Rattle.delivery.proofs.Delivering.{compacts-none, compacts-all}
+use borrow.Author.Needs.{needs}
+use Rattle.delivery.proofs.deliver.Statement.{statement}
+use Rattle.delivery.proofs.deliver.Tie as tie
+use Rattle.delivery.proofs.deliver.Reads as reads
+use Rattle.delivery.proofs.deliver.Lts as lts
+use Rattle.design.proofs.compact.compact.Reads as compact-reads
+use Rattle.design.proofs.compact.keep.Reads as keep-reads
+use Rattle.design.proofs.compact.kept_count.Reads as kept-count-reads
+
+-- src/lib.rt:33:5
+keep-requires : tie.Need-keep-requires
+keep-requires c κs = search needs
+
+-- src/lib.rt:34:17
+kept-count-requires : tie.Need-kept-count-requires
+kept-count-requires c κs = search needs
+
+-- src/lib.rt:34:17
+mul-bytes : tie.Need-mul-bytes
+mul-bytes c = search needs
+
+-- src/lib.rt:35:23
+cast-if1 : tie.Need-cast-if1
+cast-if1 c = search needs
+
+-- src/lib.rt:36:9
+same-length : tie.Need-same-length
+same-length c = search needs
+
+-- src/lib.rt:36:9
+returns : tie.Need-returns
+returns c = search compacts-none
+
+-- src/lib.rt:38:5
+compact-requires : tie.Need-compact-requires
+compact-requires c κs = search needs
+
+-- src/lib.rt:28:1
+same-length-2 : tie.Need-same-length-2
+same-length-2 c = search needs
+
+-- src/lib.rt:28:1
+same-length-3 : tie.Need-same-length-3
+same-length-3 c = search needs
+
+-- src/lib.rt:28:1
+returns-2 : tie.Need-returns-2
+returns-2 c = search compacts-all
+
+pub deliver-spec : {M : Type 1} → statement M
+deliver-spec =
+    tie.close
+    (tie.spec
+    keep-requires
+    kept-count-requires
+    mul-bytes
+    cast-if1
+    same-length
+    returns
+    compact-requires
+    same-length-2
+    same-length-3
+    returns-2)

@@ -1,0 +1,18 @@
+-- `delivery::refuse` meets its contract. Assumes nothing.
+use borrow.Author.Needs.{needs}
+use Rattle.delivery.proofs.refuse.Statement.{statement}
+use Rattle.delivery.proofs.refuse.Tie as tie
+use Rattle.delivery.proofs.refuse.Reads as reads
+use Rattle.delivery.proofs.refuse.Lts as lts
+use Rattle.checking.proofs.figures_of.Reads as figures-of-reads
+
+-- src/lib.rt:56:9
+figures-of-requires : tie.Need-figures-of-requires
+figures-of-requires c κs = search needs
+
+-- src/lib.rt:52:1
+returns : tie.Need-returns
+returns c = (cc, cc)
+
+pub refuse-spec : {M : Type 1} → statement M
+refuse-spec = tie.close (tie.spec figures-of-requires returns)

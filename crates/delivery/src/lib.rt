@@ -1,0 +1,70 @@
+// What the calls have in common: the work slice wiped, a netlist put into the reply, the answer words for C.
+use calls::Written;
+use checking::Refusal;
+ghost use mathlib.Core.Path.{_≡_};
+ghost use Prim.Native.Nat.{_≤_};
+ghost use lib.ListN.{length};
+ghost use Rattle.netlist.specs.Areas.{recordsIn};
+ghost use Rattle.netlist.specs.Netlist.{netlistOf};
+ghost use Rattle.design.specs.Compact.{compact};
+ghost use Rattle.calls.specs.Work.{wiped};
+ghost use Rattle.calls.specs.Answers.{accepted, refused, writtenFigures, wordsOf};
+ghost use Rattle.calls.specs.Calls.{encoded};
+ghost use Rattle.delivery.specs.Delivery.{Delivers};
+
+// Sets the first 16,384 words to 0.
+pub fn wipe(work: &mut [u32])
+    requires { ⌜ 16384 ≤ length (now work) ⌝ }
+    ensures { λ _. ⌜ now (work .exit) ≡ wiped 16384 (now (work .entry)) ⌝ }
+{
+    let mut i = 0;
+    while i < 16384 {
+        work[i] = 0;
+        i += 1;
+    }
+}
+
+// Compacts the netlist of the first n slots into the reply; 12, and nothing written, if that is too short.
+pub fn deliver(work: &mut [u32], n: u32, reply: &mut [u8]) -> Written
+    requires { ⌜ 16384 ≤ length (now work) ⌝ }
+    requires { ⌜ n ≤ 1024 ⌝ }
+    ensures { λ r. ⌜ Delivers (encoded (compact (netlistOf (recordsIn n (now (work .entry)))))) (now (work .entry)) (now (work .exit)) (now (reply .entry)) (now (reply .exit)) r ⌝ }
+{
+    design::compact::keep(work, n);
+    let bytes = design::compact::kept_count(work, n) * 16;
+    if reply.len() < (bytes as usize) {
+        return Written::Refused(Refusal::ShortReply);
+    }
+    design::compact::compact(work, n, reply);
+    Written::Accepted(bytes)
+}
+
+// The answer words of an accepted ticket, and the number.
+pub fn accept(answer: &mut [u32; 8], count: u32, extra: u32) -> u32
+    ensures { λ r. ⌜ r ≡ accepted count extra .number ⌝ }
+    ensures { λ _. ⌜ now (answer .exit) ≡ wordsOf (accepted count extra) ⌝ }
+{
+    *answer = [0, count, extra, 0, 0, 0, 0, 0];
+    0
+}
+
+// The answer words of a refusal, and the number.
+pub fn refuse(answer: &mut [u32; 8], x: Refusal) -> u32
+    ensures { λ r. ⌜ r ≡ refused x .number ⌝ }
+    ensures { λ _. ⌜ now (answer .exit) ≡ wordsOf (refused x) ⌝ }
+{
+    let f = checking::figures_of(x);
+    *answer = [f.place, 0, 0, 0, 0, 0, 0, 0];
+    f.number
+}
+
+// The answer words of a call that counts the bytes written, and the number.
+pub fn tell_written(w: Written, answer: &mut [u32; 8]) -> u32
+    ensures { λ r. ⌜ r ≡ writtenFigures w .number ⌝ }
+    ensures { λ _. ⌜ now (answer .exit) ≡ wordsOf (writtenFigures w) ⌝ }
+{
+    match w {
+        Written::Accepted(bytes) => accept(answer, bytes, 0),
+        Written::Refused(x) => refuse(answer, x),
+    }
+}

@@ -1,0 +1,3 @@
+pub mod Stimulus
+pub mod Outputs
+pub mod Answering

@@ -1,0 +1,70 @@
+-- `levels_call::passed` meets its contract. Assumes nothing.
+use Rattle.levels_call.proofs.Answering.{stimulus-refused, stimulus-passed}
+use borrow.Author.Needs.{needs}
+use Rattle.levels_call.proofs.passed.Statement.{statement}
+use Rattle.levels_call.proofs.passed.Tie as tie
+use Rattle.levels_call.proofs.passed.Reads as reads
+use Rattle.levels_call.proofs.passed.Lts as lts
+use Rattle.levels_call.proofs.stimulus_verdict.Reads as stimulus-verdict-reads
+use Rattle.levels_call.proofs.written.Reads as written-reads
+use Rattle.netlist.proofs.load.Reads as load-reads
+
+-- src/lib.rt:90:13
+cast-n : tie.Need-cast-n
+cast-n c = search needs
+
+-- src/lib.rt:91:5
+load-requires : tie.Need-load-requires
+load-requires c κs = search needs
+
+-- src/lib.rt:92:11
+stimulus-verdict-requires : tie.Need-stimulus-verdict-requires
+stimulus-verdict-requires c κs = search needs
+
+-- src/lib.rt:93:26
+enum-known-x : tie.Need-enum-known-x
+enum-known-x c = search needs
+
+-- src/lib.rt:94:34
+enum-told : tie.Need-enum-told
+enum-told c = search needs
+
+-- src/lib.rt:94:26
+written-requires : tie.Need-written-requires
+written-requires c κs = search needs
+
+-- src/lib.rt:86:1
+same-length : tie.Need-same-length
+same-length c = search needs
+
+-- src/lib.rt:86:1
+returns : tie.Need-returns
+returns c = search stimulus-refused
+
+-- src/lib.rt:86:1
+same-length-2 : tie.Need-same-length-2
+same-length-2 c = search needs
+
+-- src/lib.rt:86:1
+same-length-3 : tie.Need-same-length-3
+same-length-3 c = search needs
+
+-- src/lib.rt:86:1
+returns-2 : tie.Need-returns-2
+returns-2 c = search stimulus-passed
+
+pub passed-spec : {M : Type 1} → statement M
+passed-spec =
+    tie.close
+    (tie.spec
+    cast-n
+    load-requires
+    stimulus-verdict-requires
+    enum-known-x
+    enum-told
+    written-requires
+    same-length
+    returns
+    same-length-2
+    same-length-3
+    returns-2)

@@ -1,0 +1,121 @@
+// Levels of the outputs for a stimulus.
+use calls::Written;
+use checking::Refusal;
+use checking::Verdict;
+use value::Slot;
+ghost use mathlib.Core.Path.{_≡_};
+ghost use mathlib.Core.Bool.{cond};
+ghost use mathlib.Core.List.{_++_, map};
+ghost use Prim.Native.Nat.{_≤_};
+ghost use lib.ListN.{length, getD, set};
+ghost use Rattle.logic.specs.Levels.{byteOf};
+ghost use Rattle.logic.specs.declared.Trit.the-variants.{Undef};
+ghost use Rattle.netlist.specs.Areas.{recordsIn};
+ghost use Rattle.levels.specs.Fold.{cellsIn, ofKind, levelsAt, bitOutputs};
+ghost use Rattle.checking.specs.Refusals.{firstOf};
+ghost use Rattle.checking.specs.Checking.{checkStages};
+ghost use Rattle.calls.specs.Calls.{put, stimulusStages, levelBytes, levelAnswer, levelReply};
+ghost use Rattle.calls.specs.Work.{cleared};
+ghost use Rattle.delivery.specs.Delivery.{Writes, Delivers, Passed};
+ghost use Rattle.levels_call.specs.Levels.{outputAt, writtenLevels, levelStages};
+
+// 10 and 11.
+fn stimulus_verdict(work: &[u32], n: u32, stimulus: &[u8]) -> Verdict
+    requires { ⌜ n ≤ 512 ⌝ }
+    ensures { λ v. ⌜ v ≡ firstOf (stimulusStages (cellsIn n (now (work .entry))) (now (stimulus .entry))) ⌝ }
+{
+    let count = levels::count_kind(work, n, 1);
+    if stimulus.len() != (count as usize) {
+        return Verdict::Refused(Refusal::LevelCount);
+    }
+    let mut i: u32 = 0;
+    while i < count {
+        if 2 < cell::byte(stimulus, i as usize) {
+            return Verdict::Refused(Refusal::LevelValue(i));
+        }
+        i += 1;
+    }
+    Verdict::Pass
+}
+
+// Writes the level of a slot that holds an output as byte k of the reply. The answer is the number of bytes written.
+fn write_at(work: &[u32], n: u32, s: Slot, reply: &mut [u8], k: u32) -> u32
+    ensures { λ r. ⌜ r ≡ cond (outputAt (now (work .entry)) (s .0)) 1 0 ⌝ }
+    ensures { λ r. ⌜ r ≤ 1 ⌝ }
+    ensures { λ _. ⌜ now (reply .exit) ≡ cond (outputAt (now (work .entry)) (s .0)) (set (now (reply .entry)) k (byteOf (getD (levelsAt n (now (work .entry))) (s .0) Undef))) (now (reply .entry)) ⌝ }
+{
+    let kind = netlist::record_in(work, s).kind;
+    if kind == 2 {
+        let t = levels::level_at(work, n, s);
+        cell::put_byte(reply, k as usize, t.to_byte() as u8);
+        return 1;
+    }
+    0
+}
+
+// Writes the levels of the outputs, in slot order.
+fn write_levels(work: &[u32], n: u32, reply: &mut [u8])
+    requires { ⌜ n ≤ 512 ⌝ }
+    requires { ⌜ length (ofKind 2 (recordsIn n (now work))) ≤ length (now reply) ⌝ }
+    ensures { λ _. ⌜ now (reply .exit) ≡ put (now (reply .entry)) (writtenLevels n (now (work .entry))) ⌝ }
+{
+    let mut s: u32 = 0;
+    let mut k: u32 = 0;
+    while s < n {
+        k += write_at(work, n, Slot(s), reply, k);
+        s += 1;
+    }
+}
+
+// 12, or the levels of the outputs.
+fn written(work: &mut [u32], n: u32, stimulus: &[u8], reply: &mut [u8]) -> Written
+    requires { ⌜ 16384 ≤ length (now work) ⌝ }
+    requires { ⌜ n ≤ 512 ⌝ }
+    ensures { λ r. ⌜ Delivers (map byteOf (bitOutputs (cellsIn n (now (work .entry))) (now (stimulus .entry)))) (now (work .entry)) (now (work .exit)) (now (reply .entry)) (now (reply .exit)) r ⌝ }
+{
+    let count = levels::count_kind(work, n, 2);
+    if reply.len() < (count as usize) {
+        return Written::Refused(Refusal::ShortReply);
+    }
+    levels::evaluate(work, n, stimulus);
+    write_levels(work, n, reply);
+    Written::Accepted(count)
+}
+
+// 10 to 12, or the levels of the outputs, for a ticket that passed.
+fn passed(ticket: &[u8], stimulus: &[u8], work: &mut [u32], reply: &mut [u8]) -> Written
+    requires { ⌜ Passed (now ticket) (now work) ⌝ }
+    ensures { λ r. ⌜ Writes (levelStages (now (ticket .entry)) (now (stimulus .entry)) (now (reply .entry))) (levelBytes (now (ticket .entry)) (now (stimulus .entry))) (now (work .entry)) (now (work .exit)) (now (reply .entry)) (now (reply .exit)) r ⌝ }
+{
+    let n = (ticket.len() / 16) as u32;
+    netlist::load(work, ticket, n);
+    match stimulus_verdict(work, n, stimulus) {
+        Verdict::Refused(x) => Written::Refused(x),
+        Verdict::Pass => written(work, n, stimulus, reply),
+    }
+}
+
+// 2 to 8 and 10 to 12, or the levels of the outputs, with a work slice that is long enough.
+fn checked(ticket: &[u8], stimulus: &[u8], work: &mut [u32], reply: &mut [u8]) -> Written
+    requires { ⌜ 16384 ≤ length (now work) ⌝ }
+    ensures { λ r. ⌜ Writes (checkStages (length (now (work .entry))) (now (ticket .entry)) ++ levelStages (now (ticket .entry)) (now (stimulus .entry)) (now (reply .entry))) (levelBytes (now (ticket .entry)) (now (stimulus .entry))) (now (work .entry)) (now (work .exit)) (now (reply .entry)) (now (reply .exit)) r ⌝ }
+{
+    match checking::verdict_of(work, ticket) {
+        Verdict::Refused(x) => Written::Refused(x),
+        Verdict::Pass => passed(ticket, stimulus, work, reply),
+    }
+}
+
+// The levels of a ticket's outputs for a stimulus, a byte for each input record in, one for each output record out.
+pub fn levels(ticket: &[u8], stimulus: &[u8], work: &mut [u32], reply: &mut [u8]) -> Written
+    ensures { λ r. ⌜ r ≡ levelAnswer (length (now (work .entry))) (now (ticket .entry)) (now (stimulus .entry)) (now (reply .entry)) ⌝ }
+    ensures { λ _. ⌜ now (reply .exit) ≡ levelReply (length (now (work .entry))) (now (ticket .entry)) (now (stimulus .entry)) (now (reply .entry)) ⌝ }
+    ensures { λ _. ⌜ now (work .exit) ≡ cleared (now (work .entry)) ⌝ }
+{
+    if work.len() < 16384 {
+        return Written::Refused(Refusal::ShortWork);
+    }
+    let r = checked(ticket, stimulus, work, reply);
+    delivery::wipe(work);
+    r
+}

@@ -1,0 +1,68 @@
+-- A ticket loaded, merged and delivered. Assumes nothing.
+use mathlib.Core.Path.{_≡_, refl, ap, _∙_}
+use mathlib.Core.Bool.{Bool}
+use mathlib.Core.List.{List, [], _∷_, _++_}
+use Prim.Native.Nat.{ℕ, _<_}
+use native.Mathlib.Omega.{arith}
+use lib.ListN.{length}
+use Rattle.cell.specs.declared.Record.{Record}
+use Rattle.cell.specs.Records.{recordsOf}
+use Rattle.netlist.specs.Areas.{recordsIn, Within}
+use Rattle.netlist.specs.Netlist.{netlistOf}
+use Rattle.netlist.proofs.Frames.{within-drop}
+use Rattle.design.specs.Compact.{compact}
+use Rattle.design.specs.Words.{netlistIn}
+use Rattle.merge.specs.Merge.{merge}
+use Rattle.merge.specs.Words.{Sequenced, MergesNetlist}
+use Rattle.checking.specs.declared.Refusal.the-variants.{ShortWork}
+use Rattle.checking.specs.declared.Verdict.{Verdict}
+use Rattle.checking.specs.declared.Verdict.the-variants as verdict
+use Rattle.checking.specs.Refusals.{Stage, firstOf}
+use Rattle.checking.specs.Checking.{netlistStages, checkStages}
+use Rattle.calls.specs.declared.Written.{Written}
+use Rattle.calls.specs.declared.Merged.{Merged}
+use Rattle.calls.specs.declared.Merged.the-variants as merged
+use Rattle.calls.specs.Answers.{writtenBy, mergedBy}
+use Rattle.calls.specs.Calls.{room, encoded, mergeBytes}
+use Rattle.delivery.specs.Delivery.{Delivers}
+use Rattle.delivery.proofs.Deciding.{short-decides}
+use Rattle.delivery.proofs.Delivering.{delivers-from}
+use Rattle.merge_call.specs.Merge.{withFlag, LoadsMerged, Merges}
+use Rattle.merge_call.proofs.Sequence.{records-sequenced}
+
+pub loaded-sequenced : (t : List ℕ) (n : ℕ) (ws : List ℕ) → recordsIn n ws ≡ recordsOf t → firstOf (netlistStages (recordsOf t)) ≡ verdict.Pass
+    → Sequenced (netlistIn n ws .bits)
+loaded-sequenced t n ws loaded passed = records-sequenced (recordsIn n ws) (ap (λ (rs : List Record). firstOf (netlistStages rs)) loaded ∙ passed)
+
+pub merged-loads : (t : List ℕ) (n : ℕ) (ws₀ ws ws₁ : List ℕ) (r : Bool) → MergesNetlist n ws ws₁ r → recordsIn n ws ≡ recordsOf t → Within 0 4096 ws₀ ws
+    → LoadsMerged t n ws₀ ws₁ r
+merged-loads t n ws₀ ws ws₁ r m loaded frame = record {
+  result = m .result ∙ ap (λ (rs : List Record). merge (netlistOf rs) .0) loaded;
+  flag = m .flag ∙ ap (λ (rs : List Record). merge (netlistOf rs) .1) loaded;
+  rest = within-drop 0 15360 16384 ws ws₁ (omega arith) (m .frame) ∙ within-drop 0 4096 16384 ws₀ ws (omega arith) frame;
+}
+
+-- the flag beside the answer of a netlist written
+flagged : (v : Verdict) (bytes : ℕ) (changed : Bool) → withFlag (writtenBy v bytes) changed ≡ mergedBy v bytes changed
+flagged verdict.Pass bytes changed = refl
+flagged (verdict.Refused x) bytes changed = refl
+
+pub merged-delivers : (t : List ℕ) (n : ℕ) (ws ws₁ ws₂ reply reply′ : List ℕ) (w : Written) (changed : Bool) (r : Merged) → r ≡ withFlag w changed
+    → Delivers (encoded (compact (netlistIn n ws₁))) ws₁ ws₂ reply reply′ w → LoadsMerged t n ws ws₁ changed
+    → Merges (room reply (mergeBytes t) ∷ []) t ws ws₂ reply reply′ r
+unfolding mergeBytes
+merged-delivers t n ws ws₁ ws₂ reply reply′ w changed r r-is d m =
+    let e : Delivers (mergeBytes t) ws ws₂ reply reply′ w =
+    delivers-from (encoded (compact (netlistIn n ws₁))) (mergeBytes t) ws ws₁ ws₂ reply reply′ w (ap encoded (m .result)) (m .rest) d in
+    let v : Verdict = firstOf (room reply (mergeBytes t) ∷ []) in
+    record {
+      said =
+          r-is ∙ ap (λ (x : Written). withFlag x changed) (e .said) ∙ flagged v (length (mergeBytes t)) changed
+          ∙ ap (mergedBy v (length (mergeBytes t))) (m .flag);
+      left = e .left;
+      rest = e .rest;
+    }
+
+pub short-merged : (words : ℕ) (t : List ℕ) → words < 16384 → (own : List Stage) (bytes : ℕ) (changed : Bool)
+    → merged.Refused ShortWork ≡ mergedBy (firstOf (checkStages words t ++ own)) bytes changed
+short-merged words t h own bytes changed = rw (short-decides words t h own)

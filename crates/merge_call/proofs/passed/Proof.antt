@@ -1,0 +1,50 @@
+-- `merge_call::passed` meets its contract. Assumes nothing.
+use Rattle.merge_call.proofs.Merging.{merged-delivers}
+use borrow.Author.Needs.{needs}
+use Rattle.merge_call.proofs.passed.Statement.{statement}
+use Rattle.merge_call.proofs.passed.Tie as tie
+use Rattle.merge_call.proofs.passed.Reads as reads
+use Rattle.merge_call.proofs.passed.Lts as lts
+use Rattle.delivery.proofs.deliver.Reads as deliver-reads
+use Rattle.merge_call.proofs.load_merged.Reads as load-merged-reads
+use Rattle.merge_call.proofs.with_flag.Reads as with-flag-reads
+
+-- src/lib.rt:42:13
+cast-n : tie.Need-cast-n
+cast-n c = search needs
+
+-- src/lib.rt:43:9
+load-merged-requires : tie.Need-load-merged-requires
+load-merged-requires c κs = search needs
+
+-- src/lib.rt:44:15
+deliver-requires : tie.Need-deliver-requires
+deliver-requires c κs = search needs
+
+-- src/lib.rt:44:5
+with-flag-requires : tie.Need-with-flag-requires
+with-flag-requires c κs = search needs
+
+-- src/lib.rt:38:1
+same-length : tie.Need-same-length
+same-length c = search needs
+
+-- src/lib.rt:38:1
+same-length-2 : tie.Need-same-length-2
+same-length-2 c = search needs
+
+-- src/lib.rt:38:1
+returns : tie.Need-returns
+returns c = search merged-delivers
+
+pub passed-spec : {M : Type 1} → statement M
+passed-spec =
+    tie.close
+    (tie.spec
+    cast-n
+    load-merged-requires
+    deliver-requires
+    with-flag-requires
+    same-length
+    same-length-2
+    returns)

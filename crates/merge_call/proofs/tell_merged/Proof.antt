@@ -1,0 +1,49 @@
+-- `merge_call::tell_merged` meets its contract. Assumes nothing.
+use borrow.Author.Needs.{needs}
+use Rattle.merge_call.proofs.tell_merged.Statement.{statement}
+use Rattle.merge_call.proofs.tell_merged.Tie as tie
+use Rattle.merge_call.proofs.tell_merged.Reads as reads
+use Rattle.merge_call.proofs.tell_merged.Lts as lts
+use Rattle.delivery.proofs.accept.Reads as accept-reads
+use Rattle.delivery.proofs.refuse.Reads as refuse-reads
+use Rattle.logic.proofs.pick32.Reads as pick32-reads
+
+-- src/lib.rt:84:26
+enum-known-m : tie.Need-enum-known-m
+enum-known-m c = search needs
+
+-- src/lib.rt:84:77
+pick32-requires : tie.Need-pick32-requires
+pick32-requires c κs = search needs
+
+-- src/lib.rt:84:45
+accept-requires : tie.Need-accept-requires
+accept-requires c κs = search needs
+
+-- src/lib.rt:85:25
+enum-known-m-2 : tie.Need-enum-known-m-2
+enum-known-m-2 c = search needs
+
+-- src/lib.rt:85:31
+refuse-requires : tie.Need-refuse-requires
+refuse-requires c κs = search needs
+
+-- src/lib.rt:79:1
+returns : tie.Need-returns
+returns c = rw (c .before .before .before .before .m .given .1, ← c .before .pick32 .ensures) (c .accept .ensures)
+
+-- src/lib.rt:79:1
+returns-2 : tie.Need-returns-2
+returns-2 c = rw (c .before .before .before .m2 .given .1) (c .refuse .ensures)
+
+pub tell-merged-spec : {M : Type 1} → statement M
+tell-merged-spec =
+    tie.close
+    (tie.spec
+    enum-known-m
+    pick32-requires
+    accept-requires
+    enum-known-m-2
+    refuse-requires
+    returns
+    returns-2)

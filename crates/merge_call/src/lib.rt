@@ -1,0 +1,84 @@
+// Merging: equal cells made one, and the result compacted.
+use calls::Merged;
+use calls::Written;
+use checking::Refusal;
+use checking::Verdict;
+ghost use mathlib.Core.Path.{_≡_};
+ghost use mathlib.Core.List.{[], _∷_, _++_};
+ghost use Prim.Native.Nat.{_/_, _≤_};
+ghost use lib.ListN.{length};
+ghost use Rattle.checking.specs.Checking.{checkStages};
+ghost use Rattle.calls.specs.Work.{cleared};
+ghost use Rattle.calls.specs.Answers.{mergedFigures, wordsOf};
+ghost use Rattle.calls.specs.Calls.{room, mergeBytes, mergeAnswer, mergeReply};
+ghost use Rattle.delivery.specs.Delivery.{Passed};
+ghost use Rattle.merge_call.specs.Merge.{withFlag, LoadsMerged, Merges};
+
+fn with_flag(w: Written, changed: bool) -> Merged
+    ensures { λ r. ⌜ r ≡ withFlag w changed ⌝ }
+{
+    match w {
+        Written::Accepted(bytes) => Merged::Accepted(bytes, changed),
+        Written::Refused(x) => Merged::Refused(x),
+    }
+}
+
+// Merges the n records of a ticket that passed, and says whether an operand was changed.
+fn load_merged(ticket: &[u8], work: &mut [u32], n: u32) -> bool
+    requires { ⌜ Passed (now ticket) (now work) ⌝ }
+    requires { ⌜ n ≡ length (now ticket) / 16 ⌝ }
+    ensures { λ r. ⌜ LoadsMerged (now (ticket .entry)) n (now (work .entry)) (now (work .exit)) r ⌝ }
+{
+    netlist::load(work, ticket, n);
+    merge::merge(work, n)
+}
+
+// 12, or the byte count and the flag, for a ticket that passed.
+fn passed(ticket: &[u8], work: &mut [u32], reply: &mut [u8]) -> Merged
+    requires { ⌜ Passed (now ticket) (now work) ⌝ }
+    ensures { λ r. ⌜ Merges (room (now (reply .entry)) (mergeBytes (now (ticket .entry))) ∷ []) (now (ticket .entry)) (now (work .entry)) (now (work .exit)) (now (reply .entry)) (now (reply .exit)) r ⌝ }
+{
+    let n = (ticket.len() / 16) as u32;
+    let changed = load_merged(ticket, work, n);
+    with_flag(delivery::deliver(work, n, reply), changed)
+}
+
+// Refusals 2 to 8 and 12, or the byte count and the flag, with a work slice that is long enough.
+fn checked(ticket: &[u8], work: &mut [u32], reply: &mut [u8]) -> Merged
+    requires { ⌜ 16384 ≤ length (now work) ⌝ }
+    ensures { λ r. ⌜ Merges (checkStages (length (now (work .entry))) (now (ticket .entry)) ++ (room (now (reply .entry)) (mergeBytes (now (ticket .entry))) ∷ [])) (now (ticket .entry)) (now (work .entry)) (now (work .exit)) (now (reply .entry)) (now (reply .exit)) r ⌝ }
+{
+    match checking::verdict_of(work, ticket) {
+        Verdict::Refused(x) => Merged::Refused(x),
+        Verdict::Pass => passed(ticket, work, reply),
+    }
+}
+
+// Merges a ticket into the reply: refusals 1 to 8 and 12, or the byte count and whether an operand was changed.
+pub fn merge(ticket: &[u8], work: &mut [u32], reply: &mut [u8]) -> Merged
+    ensures { λ r. ⌜ r ≡ mergeAnswer (length (now (work .entry))) (now (ticket .entry)) (now (reply .entry)) ⌝ }
+    ensures { λ _. ⌜ now (reply .exit) ≡ mergeReply (length (now (work .entry))) (now (ticket .entry)) (now (reply .entry)) ⌝ }
+    ensures { λ _. ⌜ now (work .exit) ≡ cleared (now (work .entry)) ⌝ }
+{
+    if work.len() < 16384 {
+        return Merged::Refused(Refusal::ShortWork);
+    }
+    let m = checked(ticket, work, reply);
+    delivery::wipe(work);
+    m
+}
+
+// The answer words, and the number.
+pub fn tell_merged(m: Merged, answer: &mut [u32; 8]) -> u32
+    ensures { λ r. ⌜ r ≡ mergedFigures m .number ⌝ }
+    ensures { λ _. ⌜ now (answer .exit) ≡ wordsOf (mergedFigures m) ⌝ }
+{
+    match m {
+        Merged::Accepted(bytes, changed) => delivery::accept(
+            answer,
+            bytes,
+            logic::pick32(changed, 1, 0),
+        ),
+        Merged::Refused(x) => delivery::refuse(answer, x),
+    }
+}

@@ -1,0 +1,70 @@
+-- `rewrite_call::passed` meets its contract. Assumes nothing.
+use Rattle.rewrite_call.proofs.Rewriting.{loaded-passed, rewritten-fits, writes-none, writes-rewritten}
+use borrow.Author.Needs.{needs}
+use Rattle.rewrite_call.proofs.passed.Statement.{statement}
+use Rattle.rewrite_call.proofs.passed.Tie as tie
+use Rattle.rewrite_call.proofs.passed.Reads as reads
+use Rattle.rewrite_call.proofs.passed.Lts as lts
+use Rattle.delivery.proofs.deliver.Reads as deliver-reads
+use Rattle.netlist.proofs.load.Reads as load-reads
+use Rattle.rewriter.proofs.run.rewrite.Reads as rewrite-reads
+
+-- src/lib.rt:21:13
+cast-n : tie.Need-cast-n
+cast-n c = search needs
+
+-- src/lib.rt:22:5
+load-requires : tie.Need-load-requires
+load-requires c κs = search needs
+
+-- src/lib.rt:23:11
+rewrite-requires : tie.Need-rewrite-requires
+rewrite-requires c κs = (search needs, (search needs, search loaded-passed))
+
+-- src/lib.rt:24:23
+enum-known-slots : tie.Need-enum-known-slots
+enum-known-slots c = search needs
+
+-- src/lib.rt:24:33
+deliver-requires : tie.Need-deliver-requires
+deliver-requires c κs = (search needs, search (rewritten-fits, needs))
+
+-- src/lib.rt:25:45
+enum-told : tie.Need-enum-told
+enum-told c = search needs
+
+-- src/lib.rt:17:1
+same-length : tie.Need-same-length
+same-length c = search needs
+
+-- src/lib.rt:17:1
+same-length-2 : tie.Need-same-length-2
+same-length-2 c = search needs
+
+-- src/lib.rt:17:1
+returns : tie.Need-returns
+returns c = search writes-rewritten
+
+-- src/lib.rt:17:1
+same-length-3 : tie.Need-same-length-3
+same-length-3 c = search needs
+
+-- src/lib.rt:17:1
+returns-2 : tie.Need-returns-2
+returns-2 c = search writes-none
+
+pub passed-spec : {M : Type 1} → statement M
+passed-spec =
+    tie.close
+    (tie.spec
+    cast-n
+    load-requires
+    rewrite-requires
+    enum-known-slots
+    deliver-requires
+    enum-told
+    same-length
+    same-length-2
+    returns
+    same-length-3
+    returns-2)

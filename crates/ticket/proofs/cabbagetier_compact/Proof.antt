@@ -1,0 +1,32 @@
+-- `ticket::cabbagetier_compact` meets its contract. Assumes nothing.
+use borrow.Author.Needs.{needs}
+use Rattle.ticket.proofs.cabbagetier_compact.Statement.{statement}
+use Rattle.ticket.proofs.cabbagetier_compact.Tie as tie
+use Rattle.ticket.proofs.cabbagetier_compact.Reads as reads
+use Rattle.ticket.proofs.cabbagetier_compact.Lts as lts
+use Rattle.compact_call.proofs.compact.Reads as compact-reads
+use Rattle.delivery.proofs.tell_written.Reads as tell-written-reads
+
+-- src/lib.rt:48:9
+compact-requires : tie.Need-compact-requires
+compact-requires c κs = search needs
+
+-- src/lib.rt:49:5
+tell-written-requires : tie.Need-tell-written-requires
+tell-written-requires c κs = search needs
+
+-- src/lib.rt:36:1
+same-length : tie.Need-same-length
+same-length c = search needs
+
+-- src/lib.rt:36:1
+same-length-2 : tie.Need-same-length-2
+same-length-2 c = search needs
+
+-- src/lib.rt:36:1
+returns : tie.Need-returns
+returns c = (cc, (search needs, (search needs, cc)))
+
+pub cabbagetier-compact-spec : {M : Type 1} → statement M
+cabbagetier-compact-spec =
+    tie.close (tie.spec compact-requires tell-written-requires same-length same-length-2 returns)

@@ -1,0 +1,32 @@
+-- `ticket::cabbagetier_levels` meets its contract. Assumes nothing.
+use borrow.Author.Needs.{needs}
+use Rattle.ticket.proofs.cabbagetier_levels.Statement.{statement}
+use Rattle.ticket.proofs.cabbagetier_levels.Tie as tie
+use Rattle.ticket.proofs.cabbagetier_levels.Reads as reads
+use Rattle.ticket.proofs.cabbagetier_levels.Lts as lts
+use Rattle.delivery.proofs.tell_written.Reads as tell-written-reads
+use Rattle.levels_call.proofs.levels.Reads as levels-reads
+
+-- src/lib.rt:32:9
+levels-requires : tie.Need-levels-requires
+levels-requires c κs = search needs
+
+-- src/lib.rt:33:5
+tell-written-requires : tie.Need-tell-written-requires
+tell-written-requires c κs = search needs
+
+-- src/lib.rt:19:1
+same-length : tie.Need-same-length
+same-length c = search needs
+
+-- src/lib.rt:19:1
+same-length-2 : tie.Need-same-length-2
+same-length-2 c = search needs
+
+-- src/lib.rt:19:1
+returns : tie.Need-returns
+returns c = (cc, (search needs, (search needs, cc)))
+
+pub cabbagetier-levels-spec : {M : Type 1} → statement M
+cabbagetier-levels-spec =
+    tie.close (tie.spec levels-requires tell-written-requires same-length same-length-2 returns)

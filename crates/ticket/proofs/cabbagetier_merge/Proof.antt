@@ -1,0 +1,32 @@
+-- `ticket::cabbagetier_merge` meets its contract. Assumes nothing.
+use borrow.Author.Needs.{needs}
+use Rattle.ticket.proofs.cabbagetier_merge.Statement.{statement}
+use Rattle.ticket.proofs.cabbagetier_merge.Tie as tie
+use Rattle.ticket.proofs.cabbagetier_merge.Reads as reads
+use Rattle.ticket.proofs.cabbagetier_merge.Lts as lts
+use Rattle.merge_call.proofs.merge.Reads as merge-reads
+use Rattle.merge_call.proofs.tell_merged.Reads as tell-merged-reads
+
+-- src/lib.rt:64:9
+merge-requires : tie.Need-merge-requires
+merge-requires c κs = search needs
+
+-- src/lib.rt:65:5
+tell-merged-requires : tie.Need-tell-merged-requires
+tell-merged-requires c κs = search needs
+
+-- src/lib.rt:52:1
+same-length : tie.Need-same-length
+same-length c = search needs
+
+-- src/lib.rt:52:1
+same-length-2 : tie.Need-same-length-2
+same-length-2 c = search needs
+
+-- src/lib.rt:52:1
+returns : tie.Need-returns
+returns c = (cc, (search needs, (search needs, cc)))
+
+pub cabbagetier-merge-spec : {M : Type 1} → statement M
+cabbagetier-merge-spec =
+    tie.close (tie.spec merge-requires tell-merged-requires same-length same-length-2 returns)

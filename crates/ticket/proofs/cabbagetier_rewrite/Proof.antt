@@ -1,0 +1,32 @@
+-- `ticket::cabbagetier_rewrite` meets its contract. Assumes nothing.
+use borrow.Author.Needs.{needs}
+use Rattle.ticket.proofs.cabbagetier_rewrite.Statement.{statement}
+use Rattle.ticket.proofs.cabbagetier_rewrite.Tie as tie
+use Rattle.ticket.proofs.cabbagetier_rewrite.Reads as reads
+use Rattle.ticket.proofs.cabbagetier_rewrite.Lts as lts
+use Rattle.delivery.proofs.tell_written.Reads as tell-written-reads
+use Rattle.rewrite_call.proofs.rewrite.Reads as rewrite-reads
+
+-- src/lib.rt:80:9
+rewrite-requires : tie.Need-rewrite-requires
+rewrite-requires c κs = search needs
+
+-- src/lib.rt:81:5
+tell-written-requires : tie.Need-tell-written-requires
+tell-written-requires c κs = search needs
+
+-- src/lib.rt:68:1
+same-length : tie.Need-same-length
+same-length c = search needs
+
+-- src/lib.rt:68:1
+same-length-2 : tie.Need-same-length-2
+same-length-2 c = search needs
+
+-- src/lib.rt:68:1
+returns : tie.Need-returns
+returns c = (cc, (search needs, (search needs, cc)))
+
+pub cabbagetier-rewrite-spec : {M : Type 1} → statement M
+cabbagetier-rewrite-spec =
+    tie.close (tie.spec rewrite-requires tell-written-requires same-length same-length-2 returns)

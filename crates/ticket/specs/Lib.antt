@@ -1,4 +1,0 @@
-pub mod Delivery
-pub mod Merge
-pub mod Rewrite
-pub mod Levels
