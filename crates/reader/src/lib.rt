@@ -1,8 +1,12 @@
-// The lister's reader: a ticket's bytes and a place in them.
+// The lister's reader: a ticket's bytes and a place in them. Its methods take it apart, and the work is done by
+// functions of slice and number.
 use cell::Record;
 use value::Slot;
 ghost use mathlib.Core.Path.{_≡_};
-ghost use Rattle.reader.specs.Read.{readAt};
+ghost use mathlib.Core.Bool.{true};
+ghost use Prim.Native.Nat.{_+_, _<_, _^_};
+ghost use Rattle.cell.specs.Records.{recordAt};
+ghost use Rattle.reader.specs.Read.{hasRecord, standing, following};
 
 pub struct Reader<'a> {
     pub bytes: &'a [u8],
@@ -10,40 +14,52 @@ pub struct Reader<'a> {
     pub at: u32,
 }
 
-// The work: the record of a slot, by its number; a blank one behind the last.
+// The bytes have a record of this slot.
+fn has_record(bytes: &[u8], at: u32) -> bool
+    ensures { λ r. ⌜ r ≡ hasRecord (now (bytes .entry)) at ⌝ }
+{
+    (at as usize) < bytes.len() / 16
+}
+
+// The record of this slot.
 fn record_of(bytes: &[u8], at: u32) -> Record
-    ensures { λ r. ⌜ r ≡ readAt (now (bytes .entry)) at ⌝ }
+    requires { ⌜ hasRecord (now bytes) at ≡ true ⌝ }
+    ensures { λ r. ⌜ r ≡ recordAt (now (bytes .entry)) at ⌝ }
 {
-    if (at as usize) < bytes.len() / 16 {
-        return cell::record_at(bytes, Slot(at));
+    cell::record_at(bytes, Slot(at))
+}
+
+impl<'a> Reader<'a> {
+    // A reader of these bytes, at the first record.
+    pub fn open(bytes: &'a [u8]) -> Reader<'a>
+        ensures { λ r. ⌜ r ≡ standing (bytes .entry) 0 ⌝ }
+    {
+        Reader { bytes, at: 0 }
     }
-    Record {
-        kind: 0,
-        flags: 0,
-        bit: 0,
-        a: 0,
-        b: 0,
-        c: 0,
+
+    // There is a record where it stands.
+    pub fn more(self) -> bool
+        ensures { λ r. ⌜ r ≡ hasRecord (now (self .entry .bytes)) (self .entry .at) ⌝ }
+    {
+        has_record(self.bytes, self.at)
     }
-}
 
-// A reader that stands at a slot.
-fn standing<'a>(bytes: &'a [u8], at: u32) -> Reader<'a>
-    ensures { λ r. ⌜ (r .bytes ≡ bytes .entry) × (r .at ≡ at) ⌝ }
-{
-    Reader { bytes, at }
-}
+    // The record where it stands.
+    pub fn record(self) -> Record
+        requires { ⌜ hasRecord (now (self .bytes)) (self .at) ≡ true ⌝ }
+        ensures { λ r. ⌜ r ≡ recordAt (now (self .entry .bytes)) (self .entry .at) ⌝ }
+    {
+        record_of(self.bytes, self.at)
+    }
 
-// The record where a reader stands.
-fn record<'a>(r: Reader<'a>) -> Record
-    ensures { λ x. ⌜ x ≡ readAt (now (r .entry .bytes)) (r .entry .at) ⌝ }
-{
-    record_of(r.bytes, r.at)
-}
-
-// The record of a slot, read through a reader. Its callers need no reader.
-pub fn record_in(bytes: &[u8], at: u32) -> Record
-    ensures { λ r. ⌜ r ≡ readAt (now (bytes .entry)) at ⌝ }
-{
-    record(standing(bytes, at))
+    // The reader at the next record.
+    pub fn next(self) -> Reader<'a>
+        requires { ⌜ self .at + 1 < 2 ^ 32 ⌝ }
+        ensures { λ r. ⌜ r ≡ following (self .entry) ⌝ }
+    {
+        Reader {
+            bytes: self.bytes,
+            at: self.at + 1,
+        }
+    }
 }
