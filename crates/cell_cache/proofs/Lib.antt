@@ -1,0 +1,5 @@
+pub mod Plain
+pub mod Life
+pub mod Covered
+pub mod Same
+pub mod Examples

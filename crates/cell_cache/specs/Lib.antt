@@ -1,0 +1,2 @@
+pub mod CellCache
+pub mod Exchanged

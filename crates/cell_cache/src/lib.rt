@@ -1,0 +1,1 @@
+// The design's `cell_cache` never answers in rewriting: there is no code here.
