@@ -1,0 +1,4 @@
+pub mod Table
+pub mod Cases
+pub mod Exact
+pub mod Everywhere

@@ -1,0 +1,1 @@
+// Which arms of the rules make an undefined level definite: there is no code here.
