@@ -1,41 +1,51 @@
 -- What the rules make of a cell reads nothing but the cell's operands, the operands of the cells looked up for those, and constants.
 -- Assumes nothing.
-use mathlib.Core.Path.{_≡_, refl, sym, ap, _∙_, subst}
+use mathlib.Core.Path.{_≡_, refl, sym, subst}
 use mathlib.Core.Bool.{Bool, true, false, cond, not}
-use mathlib.Core.List.{List, [], _∷_}
+use Rattle.logic.proofs.Tests.{cond-has}
 use Rattle.value.specs.declared.Net.{Net}
 use Rattle.value.specs.declared.ControlNet.{ControlNet}
 use Rattle.value.specs.declared.ControlNet.the-variants.{Pos, Neg}
 use Rattle.value.specs.Value.{UNDEF, ZERO, ONE, eqNet, leNet, leControl, net, fromNetInvert, isNegative, canonicalize, notControl}
+use Rattle.value.proofs.Laws.{net-of}
 use Rattle.cell.specs.declared.Cell.{Cell}
 use Rattle.cell.specs.declared.Cell.the-variants.{Input, Output, Buf, Not, And, Or, Xor, Mux, Aig}
 use Rattle.netlist.specs.Shape.{visit, hasEffects}
 use Rattle.design.specs.declared.Source.{Source}
-use Rattle.design.specs.declared.Source.the-variants.{Opaque, Known}
+use Rattle.design.specs.declared.Source.the-variants.{Known}
 use Rattle.normalize.specs.declared.Outcome.{Outcome}
-use Rattle.normalize.specs.declared.Outcome.the-variants.{None, Value, Form, Add, NotOf, AddNotOf}
-use Rattle.normalize.specs.Outcomes.{_orElse_, given, fromControl}
+use Rattle.normalize.specs.declared.Outcome.the-variants.{Form, NotOf}
+use Rattle.normalize.specs.Outcomes.{_orElse_, fromControl}
 use Rattle.normalize.specs.Normalize.{normalize}
-use Rattle.aig.specs.Aig.{differ, notRule, xorOf, aigOrder, aigRule, xorOrder, xorRule, simpleAigOpt}
-use Rattle.aig_laws.specs.Reads.{Nets, GateOf, SourceNets, GoodOutcome}
-use Rattle.aig_laws.proofs.Strings.{HasAig, aig-as, aig-turned, HasXor, xor-as, xor-turned, has-orElse, has-given}
+use Rattle.aig.specs.Aig.{differ, notRule, xorOf, aigRule, xorRule, simpleAigOpt}
+use Rattle.order_laws.specs.Members.{All}
+use Rattle.aig_laws.specs.Reads.{GateOf, SourceNets, GoodOutcome}
+use Rattle.aig_laws.proofs.Strings.{HasAig, as-is, turned, HasXor, has-orElse, has-given}
 use Rattle.aig_laws.proofs.Arms.{NotArm, not-none, not-zero, not-one, not-undef, not-not, notArm, AigArm, aig-none, aig-same, aig-opposite, aig-zero, aig-one, aig-not, and-same, and-opposite, and-and-same, and-and-opposite, nand-same, nand-opposite, nand-and-same, nand-and-opposite, nand-nand-same, nand-nand-opposite, xor-on, xor-and-on, aigArm, XorArm, xor-none, xor-same, xor-undef, xor-zero, xor-one, xor-not, xor-and, xor-nand, xor-xor, xor-both, xorArm}
 
 -- the operands of a source
 module _ (N : Net → Type 0) where
   pub not-source : (src : Source) (v : Net) → SourceNets N src → src ≡ Known (Not v) → N v
-  unfolding Nets visit
+  unfolding All visit
   not-source src v h e = subst (SourceNets N) e h .0
 
   pub aig-source : (src : Source) (p q : ControlNet) → SourceNets N src → HasAig src p q → N (net p) × N (net q)
-  unfolding Nets visit
-  aig-source src p q h (aig-as e) = let k : SourceNets N (Known (Aig p q)) = subst (SourceNets N) e h in (k .0, k .1 .0)
-  aig-source src p q h (aig-turned e) = let k : SourceNets N (Known (Aig q p)) = subst (SourceNets N) e h in (k .1 .0, k .0)
+  unfolding All visit
+  aig-source src p q h (as-is e) = let k : SourceNets N (Known (Aig p q)) = subst (SourceNets N) e h in (k .0, k .1 .0)
+  aig-source src p q h (turned e) = let k : SourceNets N (Known (Aig q p)) = subst (SourceNets N) e h in (k .1 .0, k .0)
 
   pub xor-source : (src : Source) (x y : Net) → SourceNets N src → HasXor src x y → N x × N y
-  unfolding Nets visit
-  xor-source src x y h (xor-as e) = let k : SourceNets N (Known (Xor x y)) = subst (SourceNets N) e h in (k .0, k .1 .0)
-  xor-source src x y h (xor-turned e) = let k : SourceNets N (Known (Xor y x)) = subst (SourceNets N) e h in (k .1 .0, k .0)
+  unfolding All visit
+  xor-source src x y h (as-is e) = let k : SourceNets N (Known (Xor x y)) = subst (SourceNets N) e h in (k .0, k .1 .0)
+  xor-source src x y h (turned e) = let k : SourceNets N (Known (Xor y x)) = subst (SourceNets N) e h in (k .1 .0, k .0)
+
+-- a negated control net is of the same net, or a constant
+pub not-net : (N : Net → Type 0) → N ZERO → N ONE → (x : ControlNet) → N (net x) → N (net (notControl x))
+unfolding notControl canonicalize
+not-net N zero one (Neg n) h = h
+not-net N zero one (Pos n) h =
+    let P : ControlNet → Type 0 = λ x. N (net x) in
+    cond-has P (eqNet n UNDEF) (Pos n) _ (λ e. h) (λ e. cond-has P (eqNet n ZERO) (Pos ONE) _ (λ e. one) (λ e. cond-has P (eqNet n ONE) (Pos ZERO) (Neg n) (λ e. zero) (λ e. h)))
 
 module _ (N : Net → Type 0) (undef : N UNDEF) (zero : N ZERO) (one : N ONE) where
   abbrev Reads : Cell → Type 0
@@ -45,31 +55,19 @@ module _ (N : Net → Type 0) (undef : N UNDEF) (zero : N ZERO) (one : N ONE) wh
   Good o = GoodOutcome Reads N o
 
   reads-aig : (p q : ControlNet) → N (net p) → N (net q) → Reads (Aig p q)
-  unfolding Nets visit hasEffects
+  unfolding All visit hasEffects
   reads-aig p q x y = ((x, (y, tt)), refl)
 
   reads-xor : (a b : Net) → N a → N b → Reads (Xor a b)
-  unfolding Nets visit hasEffects
+  unfolding All visit hasEffects
   reads-xor a b x y = ((x, (y, tt)), refl)
 
   reads-not : (a : Net) → N a → Reads (Not a)
-  unfolding Nets visit hasEffects
+  unfolding All visit hasEffects
   reads-not a x = ((x, tt), refl)
 
-  cond-net : (b : Bool) (x y : ControlNet) → N (net x) → N (net y) → N (net (cond b x y))
-  cond-net true x y p q = p
-  cond-net false x y p q = q
-
-  not-net : (x : ControlNet) → N (net x) → N (net (notControl x))
-  unfolding notControl canonicalize
-  not-net (Neg n) h = h
-  not-net (Pos n) h =
-      cond-net (eqNet n UNDEF) (Pos n) _ h
-      (cond-net (eqNet n ZERO) (Pos ONE) _ one (cond-net (eqNet n ONE) (Pos ZERO) (Neg n) zero h))
-
   invert-net : (n : Net) (b : Bool) → N n → N (net (fromNetInvert n b))
-  invert-net n true h = h
-  invert-net n false h = h
+  invert-net n b h = subst N (sym (net-of n b)) h
 
   good-control : (x : ControlNet) → N (net x) → Good (fromControl x)
   unfolding fromControl
@@ -103,13 +101,13 @@ module _ (N : Net → Type 0) (undef : N UNDEF) (zero : N ZERO) (one : N ONE) wh
   aig-reads srcA srcB a b o ha hb na nb (and-opposite aa ab h p t e) = subst Good (sym e) zero
   aig-reads srcA srcB a b o ha hb na nb (and-and-same aa ab ba bb h p k q t e) = subst Good (sym e) (reads-aig a bb na (aig-source N srcB ba bb hb k .1))
   aig-reads srcA srcB a b o ha hb na nb (and-and-opposite aa ab ba bb h p k q t e) = subst Good (sym e) zero
-  aig-reads srcA srcB a b o ha hb na nb (nand-same aa ab h p t e) = subst Good (sym e) (reads-aig _ b (not-net ab (aig-source N srcA aa ab ha h .1)) nb)
+  aig-reads srcA srcB a b o ha hb na nb (nand-same aa ab h p t e) = subst Good (sym e) (reads-aig _ b (not-net N zero one ab (aig-source N srcA aa ab ha h .1)) nb)
   aig-reads srcA srcB a b o ha hb na nb (nand-opposite aa ab h p t e) = subst Good (sym e) (good-control b nb)
   aig-reads srcA srcB a b o ha hb na nb (nand-and-same aa ab ba bb h p k q t e) =
-      subst Good (sym e) (reads-aig _ b (not-net ab (aig-source N srcA aa ab ha h .1)) nb)
+      subst Good (sym e) (reads-aig _ b (not-net N zero one ab (aig-source N srcA aa ab ha h .1)) nb)
   aig-reads srcA srcB a b o ha hb na nb (nand-and-opposite aa ab ba bb h p k q t e) = subst Good (sym e) (good-control b nb)
   aig-reads srcA srcB a b o ha hb na nb (nand-nand-same aa ab ba bb h p k q t u e) =
-      subst Good (sym e) (good-control (notControl ab) (not-net ab (aig-source N srcA aa ab ha h .1)))
+      subst Good (sym e) (good-control (notControl ab) (not-net N zero one ab (aig-source N srcA aa ab ha h .1)))
   aig-reads srcA srcB a b o ha hb na nb (nand-nand-opposite aa ab ba bb h p k q t u e) =
       subst Good (sym e) (good-xor aa ab (aig-source N srcA aa ab ha h .0) (aig-source N srcA aa ab ha h .1))
   aig-reads srcA srcB a b o ha hb na nb (xor-on aa ab h t e) = subst Good (sym e) (reads-aig _ b (invert-net ab (not (differ (isNegative a) (isNegative b))) (xor-source N srcA aa ab ha h .1)) nb)
@@ -124,15 +122,15 @@ module _ (N : Net → Type 0) (undef : N UNDEF) (zero : N ZERO) (one : N ONE) wh
   xor-reads srcA srcB a b o ha hb na nb (xor-one t e) = subst Good (sym e) (reads-not a na)
   xor-reads srcA srcB a b o ha hb na nb (xor-not v t e) = subst Good (sym e) (reads-xor v b (not-source N srcA v ha t) nb)
   xor-reads srcA srcB a b o ha hb na nb (xor-and aa ab h t e) =
-      subst Good (sym e) (reads-aig aa _ (aig-source N srcA aa ab ha h .0) (not-net ab (aig-source N srcA aa ab ha h .1)))
+      subst Good (sym e) (reads-aig aa _ (aig-source N srcA aa ab ha h .0) (not-net N zero one ab (aig-source N srcA aa ab ha h .1)))
   xor-reads srcA srcB a b o ha hb na nb (xor-nand aa ab h t e) =
-      subst Good (sym e) (reads-aig aa _ (aig-source N srcA aa ab ha h .0) (not-net ab (aig-source N srcA aa ab ha h .1)))
+      subst Good (sym e) (reads-aig aa _ (aig-source N srcA aa ab ha h .0) (not-net N zero one ab (aig-source N srcA aa ab ha h .1)))
   xor-reads srcA srcB a b o ha hb na nb (xor-xor aa ab h t e) = subst Good (sym e) (xor-source N srcA aa ab ha h .1)
   xor-reads srcA srcB a b o ha hb na nb (xor-both aa ab ba bb h k t e) =
       subst Good (sym e) (reads-xor ab bb (xor-source N srcA aa ab ha h .1) (xor-source N srcB ba bb hb k .1))
 
   pub normalize-reads : (c : Cell) → Reads c → Good (normalize c)
-  unfolding normalize Nets visit hasEffects
+  unfolding normalize All visit hasEffects
   normalize-reads (Buf a) h = h .0 .0
   normalize-reads (And a b) h = has-given Good tt (not (leNet a b)) (Form (And b a)) (λ e. ((h .0 .1 .0, (h .0 .0, tt)), refl))
   normalize-reads (Or a b) h = has-given Good tt (not (leNet a b)) (Form (Or b a)) (λ e. ((h .0 .1 .0, (h .0 .0, tt)), refl))
@@ -144,7 +142,7 @@ module _ (N : Net → Type 0) (undef : N UNDEF) (zero : N ZERO) (one : N ONE) wh
   normalize-reads (Mux a b c) h = tt
 
   pub simple-reads : (look : Net → Source) → ((n : Net) → N n → SourceNets N (look n)) → (c : Cell) → Reads c → Good (simpleAigOpt look c)
-  unfolding simpleAigOpt aigRule xorRule Nets visit hasEffects
+  unfolding simpleAigOpt aigRule xorRule All visit hasEffects
   simple-reads look f (Not a) h = not-reads (look a) a (notRule (look a) a) (f a (h .0 .0)) (notArm (look a) a)
   simple-reads look f (Aig p q) h =
       let x : N (net p) = h .0 .0 in

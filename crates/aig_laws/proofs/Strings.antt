@@ -1,14 +1,10 @@
 -- How a statement about outcomes goes through the strings of tests that a rule is. Assumes nothing.
-use mathlib.Core.Path.{_≡_, refl, sym, ap, _∙_}
-use mathlib.Core.Bool.{Bool, true, false, cond, not, _&&_, _||_, true≢false, false≢true}
-use lib.Dec.{eqb}
-use borrow.Author.Tests.{eqb-true}
+use mathlib.Core.Path.{_≡_, refl}
+use mathlib.Core.Bool.{Bool, true, false}
 use Rattle.value.specs.declared.Net.{Net}
 use Rattle.value.specs.declared.ControlNet.{ControlNet}
-use Rattle.value.specs.declared.ControlNet.the-variants.{Pos, Neg}
-use Rattle.value.specs.Value.{eqNet, eqControl}
-use Rattle.cell.specs.declared.Cell.{Cell}
 use Rattle.cell.specs.declared.Cell.the-variants.{Input, Output, Buf, Not, And, Or, Xor, Mux, Aig}
+use Rattle.cell.specs.declared.Cell.{Cell}
 use Rattle.design.specs.declared.Source.{Source}
 use Rattle.design.specs.declared.Source.the-variants.{Opaque, Known}
 use Rattle.normalize.specs.declared.Outcome.{Outcome}
@@ -16,34 +12,20 @@ use Rattle.normalize.specs.declared.Outcome.the-variants.{None, Value, Form, Ad
 use Rattle.normalize.specs.Outcomes.{_orElse_, given, eitherWay}
 use Rattle.aig.specs.Aig.{ifNot, ifAig, ifXor}
 
--- equal by their test
-pub eqNet-true : (a b : Net) → eqNet a b ≡ true → a ≡ b
-unfolding eqNet
-eqNet-true a b e = let p : a .0 ≡ b .0 = eqb-true (a .0) (b .0) e in λ i. record { 0 = p i }
+-- a source is a cell with these two operands, in either order
+pub data Has {A : Type 0} (make : A → A → Cell) (src : Source) (p q : A) : Type 0 where
+  as-is : src ≡ Known (make p q) → Has make src p q
+  turned : src ≡ Known (make q p) → Has make src p q
 
-pub eqControl-true : (x y : ControlNet) → eqControl x y ≡ true → x ≡ y
-unfolding eqControl
-eqControl-true (Pos a) (Pos b) e = ap Pos (eqNet-true a b e)
-eqControl-true (Pos a) (Neg b) e = absurd (false≢true e)
-eqControl-true (Neg a) (Pos b) e = absurd (false≢true e)
-eqControl-true (Neg a) (Neg b) e = ap Neg (eqNet-true a b e)
+abbrev pub HasAig : Source → ControlNet → ControlNet → Type 0
+HasAig = Has Aig
 
-pub and-both : (a b : Bool) → (a && b) ≡ true → (a ≡ true) × (b ≡ true)
-and-both true b e = (refl, e)
-and-both false b e = absurd (false≢true e)
+abbrev pub HasXor : Source → Net → Net → Type 0
+HasXor = Has Xor
 
-pub or-either : {A : Type 0} (a b : Bool) → (a || b) ≡ true → (a ≡ true → A) → (b ≡ true → A) → A
-or-either true b e f g = f refl
-or-either false b e f g = g e
-
--- a source is a cell with these operands, in either order
-pub data HasAig (src : Source) (p q : ControlNet) : Type 0 where
-  aig-as : src ≡ Known (Aig p q) → HasAig src p q
-  aig-turned : src ≡ Known (Aig q p) → HasAig src p q
-
-pub data HasXor (src : Source) (x y : Net) : Type 0 where
-  xor-as : src ≡ Known (Xor x y) → HasXor src x y
-  xor-turned : src ≡ Known (Xor y x) → HasXor src x y
+pub has-turned : {A : Type 0} (make : A → A → Cell) (src : Source) (p q : A) → Has make src p q → Has make src q p
+has-turned make src p q (as-is e) = turned e
+has-turned make src p q (turned e) = as-is e
 
 module _ (G : Outcome → Type 0) where
   pub has-orElse : (x y : Outcome) → G x → G y → G (x orElse y)
@@ -103,11 +85,11 @@ module _ (G : Outcome → Type 0) where
       → G (ifAig src (λ p q. given t (eitherWay body p q)))
   has-aig z src t body h =
       has-ifAig z src _ (λ p q e. has-given z t (eitherWay body p q)
-      (λ b. has-orElse (body p q) (body q p) (h p q (aig-as e) b) (h q p (aig-turned e) b)))
+      (λ b. has-orElse (body p q) (body q p) (h p q (as-is e) b) (h q p (turned e) b)))
 
   pub has-plain-aig : G None → (src : Source) (body : ControlNet → ControlNet → Outcome) → ((p q : ControlNet) → HasAig src p q → G (body p q))
       → G (ifAig src (eitherWay body))
-  has-plain-aig z src body h = has-ifAig z src _ (λ p q e. has-orElse (body p q) (body q p) (h p q (aig-as e)) (h q p (aig-turned e)))
+  has-plain-aig z src body h = has-ifAig z src _ (λ p q e. has-orElse (body p q) (body q p) (h p q (as-is e)) (h q p (turned e)))
 
   pub has-xor : G None → (src : Source) (body : Net → Net → Outcome) → ((x y : Net) → HasXor src x y → G (body x y)) → G (ifXor src (eitherWay body))
-  has-xor z src body h = has-ifXor z src _ (λ p q e. has-orElse (body p q) (body q p) (h p q (xor-as e)) (h q p (xor-turned e)))
+  has-xor z src body h = has-ifXor z src _ (λ p q e. has-orElse (body p q) (body q p) (h p q (as-is e)) (h q p (turned e)))

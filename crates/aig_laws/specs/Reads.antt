@@ -1,7 +1,6 @@
 -- What the laws of the rules say of nets. Assumes nothing: these are definitions.
 use mathlib.Core.Path.{_≡_}
 use mathlib.Core.Bool.{false}
-use mathlib.Core.List.{List, [], _∷_}
 use Rattle.value.specs.declared.Net.{Net}
 use Rattle.cell.specs.declared.Cell.{Cell}
 use Rattle.netlist.specs.Shape.{visit, hasEffects}
@@ -9,20 +8,16 @@ use Rattle.design.specs.declared.Source.{Source}
 use Rattle.design.specs.declared.Source.the-variants.{Opaque, Known}
 use Rattle.normalize.specs.declared.Outcome.{Outcome}
 use Rattle.normalize.specs.declared.Outcome.the-variants.{None, Value, Form, Add, NotOf, AddNotOf}
-
--- all of these nets pass N
-unfoldable pub Nets : (Net → Type 0) → List Net → Type 0
-Nets N [] = Unit {0}
-Nets N (n ∷ ns) = N n × Nets N ns
+use Rattle.order_laws.specs.Members.{All}
 
 -- a gate whose operands pass N
 abbrev pub GateOf : (Net → Type 0) → Cell → Type 0
-GateOf N c = Nets N (visit c) × (hasEffects c ≡ false)
+GateOf N c = All N (visit c) × (hasEffects c ≡ false)
 
 -- the operands of the cell that was looked up pass N
 abbrev pub SourceNets : (Net → Type 0) → Source → Type 0
 SourceNets N Opaque = Unit {0}
-SourceNets N (Known c) = Nets N (visit c)
+SourceNets N (Known c) = All N (visit c)
 
 -- the cells of an outcome pass q, its net passes v
 abbrev pub GoodOutcome : (Cell → Type 0) → (Net → Type 0) → Outcome → Type 0

@@ -1,7 +1,7 @@
 -- A FOLD SOLVES ITS EQUATION: along an order in which each slot stands once and after what it depends on, every value is at the end what it is
 -- computed to be from the others at the end. Assumes nothing.
 use mathlib.Core.Path.{_≡_, refl, sym, ap, _∙_, subst}
-use mathlib.Core.Bool.{Bool, true, false, _||_, true≢false}
+use mathlib.Core.Bool.{Bool, true, false, true≢false}
 use mathlib.Core.Logic.{_⊎_, ⊎-elim}
 use mathlib.Core.List.{List, [], _∷_, _++_}
 use Prim.Native.Nat.{ℕ, _<_}
@@ -12,20 +12,9 @@ use lib.Seq.{getD-set-same, getD-set-other}
 use borrow.Author.Tests.{eqb-true, eqb-false}
 use Rattle.levels.specs.Fold.{foldIn}
 use Rattle.order_laws.specs.Ordered.{has, OnceAfter, FedAfter}
-use Rattle.order_laws.proofs.Walks.{either, never, or-none, or-left, has-append, has-snoc-same}
-
-neither : (a b : Bool) → (a || b) ≡ false → (a ≡ false) × (b ≡ false)
-neither true b e = absurd (true≢false e)
-neither false b e = (refl, e)
-
--- what stands before an order is not in it
-once-not : (before ss : List ℕ) (x : ℕ) → OnceAfter before ss → has x before ≡ true → has x ss ≡ false
-unfolding OnceAfter has
-once-not before [] x o h = refl
-once-not before (s ∷ ss) x o h =
-    either (eqb x s)
-    (λ e. never h (ap (λ (y : ℕ). has y before) (eqb-true x s e) ∙ o .0))
-    (λ e. or-none (eqb x s) (has x ss) e ∙ once-not (before ++ (s ∷ [])) ss x (o .1) (has-append x before (s ∷ []) ∙ or-left (has x before) _ h))
+use Rattle.order_laws.proofs.Truth.{either, or-none, neither}
+use Rattle.order_laws.proofs.Members.{has-snoc-same}
+use Rattle.order_laws.proofs.Walks.{once-not}
 
 -- a value is computed from its own so far and from those of the slots that it depends on and of the sources; a source keeps its own
 module _ {A : Type 0} (d : A) (g : A → List A → ℕ → A) (n : ℕ) (deps : ℕ → List ℕ) (source : ℕ → Bool)

@@ -1,10 +1,13 @@
 -- A sound netlist goes through bytes and comes back. Assumes nothing.
 use mathlib.Core.Path.{_≡_, refl, sym, ap, ap₂, _∙_, subst}
 use mathlib.Core.List.{List, [], _∷_, _++_, map}
-use Prim.Native.Nat.{ℕ, zero, suc, _+_, _*_, _/_, _≤_, _<_}
+use mathlib.Core.Bool.{false, true≢false, not}
+use Prim.Native.Nat.{ℕ, zero, suc, _+_, _*_, _/_, _≤_, _<_, _%_}
 use native.Mathlib.Omega.{arith}
-use lib.ListN.{length, getD, length-append, length-map}
+use lib.ListN.{length, getD, length-map}
 use lib.Seq.{getD-append-add, ext-getD}
+use lib.Dec.{ltb}
+use borrow.Author.Tests.{eq-eqb, le-ltb}
 use Rattle.logic.specs.declared.Trit.{Trit}
 use Rattle.logic.specs.declared.Trit.the-variants.{Zero, One, Undef}
 use Rattle.value.specs.declared.Net.{Net}
@@ -20,21 +23,24 @@ use Rattle.cell.specs.Bytes.{word16, word32, bytes16, bytes32}
 use Rattle.cell.specs.Records.{recordOf, recordAt, recordsOf, recordIn, bytesOf, cellOf, cellRecord}
 use Rattle.cell.proofs.Lists.{records-length, records-at}
 use Rattle.cell.proofs.RoundTrips.{cell-back, Ranged, bytes-back}
-use Rattle.netlist.specs.Shape.{visit, visitMut}
+use Rattle.checking.specs.Refusals.{firstOf}
+use Rattle.checking.specs.Checking.{netlistStages, checkStages, workStage, lengthStage, sizeStage}
+use Rattle.checking.specs.declared.Verdict.the-variants.{Pass}
+use Rattle.checking.proofs.Stages.{first-passes}
+use Rattle.netlist.specs.Shape.{visit, visitMut, hasEffects}
 use Rattle.netlist.specs.Netlist.{Netlist, netlistOf, cellIn, joined, encode, ticketOf}
-use Rattle.levels_laws.specs.Algebra.{All, Before, Ranked}
-use Rattle.levels_laws.proofs.Operands.{all-imp}
-use Rattle.kept.proofs.Lists.{getD-mapped}
-use Rattle.kept.proofs.Records.{record-bit}
+use Rattle.design.proofs.Lists.{ticket-length}
+use Rattle.calls.specs.Calls.{encoded, checkVerdict}
+use Rattle.order_laws.specs.Members.{All}
+use Rattle.order_laws.proofs.Members.{all-imp}
+use Rattle.order_laws.proofs.Lists.{getD-mapped}
+use Rattle.order_laws.proofs.Sorts.{record-bit}
+use Rattle.levels_laws.specs.Algebra.{Before, Ranked}
 use Rattle.kept.proofs.Sound as sound
 use Rattle.kept.proofs.Sound.{Sound, bit-small}
-use Rattle.kept.proofs.Passing.{encode-length, encode-at}
+use Rattle.kept.proofs.Passing.{encode-length, encode-at, sound-passes}
 
 -- records -> bytes -> records
-bytes-length : (r : Record) → length (bytesOf r) ≡ 16
-unfolding bytesOf bytes16 bytes32
-bytes-length r = refl
-
 record-first : (r : Record) (t : List ℕ) → recordAt (bytesOf r ++ t) 0 ≡ recordAt (bytesOf r) 0
 unfolding recordAt bytesOf word16 word32 bytes16 bytes32
 record-first r t = refl
@@ -66,17 +72,11 @@ module _ (xs t : List ℕ) (e : length xs ≡ 16) where
         shift32 (s * 16 + 12) (suc s * 16 + 12) (omega arith),
       )
 
-pub ticket-length : (rs : List Record) → length (ticketOf rs) ≡ length rs * 16
-unfolding ticketOf joined
-ticket-length [] = refl
-ticket-length (r ∷ rs) =
-    length-append (bytesOf r) (ticketOf rs) ∙ ap₂ _+_ (bytes-length r) (ticket-length rs) ∙ omega arith
-
 ticket-at : (rs : List Record) (s : ℕ) → s < length rs → Ranged (recordIn rs s) → recordAt (ticketOf rs) s ≡ recordIn rs s
-unfolding ticketOf joined
+unfolding ticketOf joined bytesOf bytes16 bytes32
 ticket-at [] s l w = absurd (omega arith)
 ticket-at (r ∷ rs) zero l w = record-first r (ticketOf rs) ∙ bytes-back r w
-ticket-at (r ∷ rs) (suc s) l w = record-later (bytesOf r) (ticketOf rs) (bytes-length r) s ∙ ticket-at rs s (omega arith) w
+ticket-at (r ∷ rs) (suc s) l w = record-later (bytesOf r) (ticketOf rs) refl s ∙ ticket-at rs s (omega arith) w
 
 pub ticket-records : (rs : List Record) → length (ticketOf rs) / 16 ≡ length rs
 ticket-records rs = omega (arith, ticket-length rs)
@@ -99,17 +99,23 @@ labelOf (Xor a b) = 0
 labelOf (Mux a b c) = 0
 labelOf (Aig p q) = 0
 
+labels : (f : Net → Net) (c : Cell) → (labelOf (visitMut f c) ≡ labelOf c) × (hasEffects c ≡ false → labelOf c ≡ 0)
+unfolding labelOf visitMut hasEffects
+labels f (Input l) = (refl, λ e. absurd (true≢false e))
+labels f (Output a l) = (refl, λ e. absurd (true≢false e))
+labels f (Buf a) = (refl, λ e. refl)
+labels f (Not a) = (refl, λ e. refl)
+labels f (And a b) = (refl, λ e. refl)
+labels f (Or a b) = (refl, λ e. refl)
+labels f (Xor a b) = (refl, λ e. refl)
+labels f (Mux a b c) = (refl, λ e. refl)
+labels f (Aig p q) = (refl, λ e. refl)
+
 pub label-kept : (f : Net → Net) (c : Cell) → labelOf (visitMut f c) ≡ labelOf c
-unfolding labelOf visitMut
-label-kept f (Input l) = refl
-label-kept f (Output a l) = refl
-label-kept f (Buf a) = refl
-label-kept f (Not a) = refl
-label-kept f (And a b) = refl
-label-kept f (Or a b) = refl
-label-kept f (Xor a b) = refl
-label-kept f (Mux a b c) = refl
-label-kept f (Aig p q) = refl
+label-kept f c = labels f c .0
+
+pub gate-label : (c : Cell) → hasEffects c ≡ false → labelOf c ≡ 0
+gate-label c = labels (λ n. n) c .1
 
 pub label-small : (bit : ℕ) (c : Cell) → cellRecord bit c .a < 4294967296 → cellRecord bit c .b < 4294967296 → labelOf c < 4294967296
 unfolding cellRecord labelOf
@@ -174,24 +180,42 @@ module _ (d : Netlist) (rank : ℕ → ℕ) (good : Sound d rank) (labelled : La
       (λ s h. let l : s < length (d .cells) = let e : length (encode d) ≡ length (d .cells) = encode-length d rank good in omega arith in
       subst Ranged (sym (encode-at d rank good s l)) (slot-ranged s l))
 
+  -- what each record gives, read off the records
+  read-back : {A : Type 0} (g : Record → A) (l : List A) (z : A) → length l ≡ length (d .cells)
+      → ((s : ℕ) → s < length (d .cells) → g (sound.recordIn d s) ≡ getD l s z) → map g (encode d) ≡ l
+  read-back g l z w h =
+      let e : length (encode d) ≡ length (d .cells) = encode-length d rank good in
+      let m : length (map g (encode d)) ≡ length (encode d) = length-map (encode d) g in
+      ext-getD z (map g (encode d)) l (m ∙ e ∙ sym w)
+      (λ s k. getD-mapped g (encode d) s (recordOf 0 0 0 0 0 0) z (omega arith) ∙ ap g (encode-at d rank good s (omega arith)) ∙ h s (omega arith))
+
   cells-back : map cellOf (encode d) ≡ d .cells
-  cells-back =
-      ext-getD (Input 0) (map cellOf (encode d)) (d .cells) (length-map (encode d) cellOf ∙ encode-length d rank good)
-      (λ s h. let k : s < length (encode d) = let q : length (map cellOf (encode d)) ≡ length (encode d) = length-map (encode d) cellOf in omega arith in
-      let l : s < length (d .cells) = let e : length (encode d) ≡ length (d .cells) = encode-length d rank good in omega arith in
-      getD-mapped cellOf (encode d) s (recordOf 0 0 0 0 0 0) (Input 0) k ∙ ap cellOf (encode-at d rank good s l)
-      ∙ cell-back (getD (d .bits) s 0) (cellIn (d .cells) s))
+  cells-back = read-back cellOf (d .cells) (Input 0) refl (λ s l. cell-back (getD (d .bits) s 0) (cellIn (d .cells) s))
 
   bits-back : map (λ r. r .bit) (encode d) ≡ d .bits
-  bits-back =
-      ext-getD 0 (map (λ r. r .bit) (encode d)) (d .bits) (length-map (encode d) (λ r. r .bit) ∙ encode-length d rank good ∙ sym (good .wide))
-      (λ s h. let k : s < length (encode d) = let q : length (map (λ r. r .bit) (encode d)) ≡ length (encode d) = length-map (encode d) (λ r. r .bit) in omega arith in
-      let l : s < length (d .cells) = let e : length (encode d) ≡ length (d .cells) = encode-length d rank good in omega arith in
-      getD-mapped (λ r. r .bit) (encode d) s (recordOf 0 0 0 0 0 0) 0 k ∙ ap (λ (r : Record). r .bit) (encode-at d rank good s l)
-      ∙ record-bit (getD (d .bits) s 0) (cellIn (d .cells) s))
+  bits-back = read-back (λ r. r .bit) (d .bits) 0 (good .wide) (λ s l. record-bit (getD (d .bits) s 0) (cellIn (d .cells) s))
 
   -- netlist -> bytes -> netlist
   pub netlist-back : netlistOf (recordsOf (ticketOf (encode d))) ≡ d
   unfolding netlistOf
   netlist-back =
       ap netlistOf records-back ∙ ap₂ (λ (cs : List Cell) (bs : List ℕ). record { cells = cs; bits = bs }) cells-back bits-back
+
+  -- as a ticket it has whole records, one for each slot, and they pass
+  pub encoded-whole : length (encoded d) % 16 ≡ 0
+  encoded-whole = omega (arith, ticket-length (encode d))
+
+  pub encoded-count : length (encoded d) / 16 ≡ length (d .cells)
+  encoded-count = ticket-records (encode d) ∙ encode-length d rank good
+
+  pub encoded-records : firstOf (netlistStages (recordsOf (encoded d))) ≡ Pass
+  encoded-records = ap (λ (rs : List Record). firstOf (netlistStages rs)) records-back ∙ sound-passes d rank good
+
+  -- so checking passes it, where they are not too many
+  pub encoded-passes : (words : ℕ) → ltb words 16384 ≡ false → length (encoded d) / 16 ≤ 512 → checkVerdict words (encoded d) ≡ Pass
+  unfolding checkVerdict checkStages
+  encoded-passes words enough l =
+      first-passes (workStage words) _ enough
+      ∙ first-passes (lengthStage (encoded d)) _ (ap not (eq-eqb (length (encoded d) % 16) 0 encoded-whole))
+      ∙ first-passes (sizeStage (encoded d)) _ (le-ltb 512 (length (encoded d) / 16) l)
+      ∙ encoded-records

@@ -3,30 +3,30 @@
 use mathlib.Core.Path.{_≡_, refl, sym, ap, ap₂, _∙_, subst}
 use mathlib.Core.Bool.{Bool, not}
 use mathlib.Core.List.{List, [], _∷_, _++_, map, append-assoc}
-use Prim.Native.Nat.{ℕ, _+_, _*_, _/_, _%_, _≤_, _<_}
+use Prim.Native.Nat.{ℕ, _+_, _*_, _≤_, _<_}
 use native.Mathlib.Omega.{arith}
 use lib.Dec.{eqb, ltb}
 use lib.ListN.{length, getD, take, drop}
 use lib.Seq.{take-append-seam}
-use borrow.Author.Tests.{le-ltb, eq-eqb}
 use Rattle.logic.specs.Levels.{byteOf}
 use Rattle.value.specs.declared.Net.{Net}
 use Rattle.cell.specs.declared.Record.{Record}
 use Rattle.cell.specs.declared.Cell.{Cell}
 use Rattle.cell.specs.Bytes.{word32}
 use Rattle.cell.specs.Records.{recordAt, recordsOf, cellRecord}
-use Rattle.netlist.specs.Shape.{visitMut}
-use Rattle.netlist.specs.Netlist.{Netlist, cellIn, encode}
-use Rattle.design.specs.Compact.{compact}
-use Rattle.merge.specs.Merge.{merge}
-use Rattle.levels.specs.Evaluate.{inputSlots, outputLevels}
 use Rattle.loops.proofs.Rank.{rank}
 use Rattle.checking.specs.declared.Verdict.{Verdict}
 use Rattle.checking.specs.declared.Verdict.the-variants.{Pass, Refused}
 use Rattle.checking.specs.declared.Refusal.the-variants.{LevelCount, LevelValue}
 use Rattle.checking.specs.Refusals.{Stage, firstOf, slotBySlot}
-use Rattle.checking.specs.Checking.{workStage, lengthStage, sizeStage, netlistStages, checkStages}
-use Rattle.checking.proofs.Stages.{first-passes, later-decides, passes-both}
+use Rattle.checking.specs.Checking.{checkStages}
+use Rattle.checking.proofs.Stages.{later-decides, passes-both}
+use Rattle.netlist.specs.Shape.{visitMut}
+use Rattle.netlist.specs.Netlist.{Netlist, cellIn, encode}
+use Rattle.design.specs.Compact.{compact}
+use Rattle.design.proofs.Lists.{ticket-length}
+use Rattle.merge.specs.Merge.{merge}
+use Rattle.levels.specs.Evaluate.{inputSlots, outputLevels}
 use Rattle.calls.specs.declared.Written.the-variants as written
 use Rattle.calls.specs.declared.Merged.the-variants as merged
 use Rattle.calls.specs.Answers.{writtenBy, mergedBy}
@@ -37,8 +37,8 @@ use Rattle.kept.proofs.Compact.{compact-each, compact-shorter, compact-
 use Rattle.kept.proofs.Outputs.{compact-inputs, compact-keeps-levels}
 use Rattle.kept.proofs.Merged.{merge-each, merge-sound, merge-inputs, merge-shorter, merge-keeps-levels}
 use Rattle.kept.proofs.Tickets.{ticket-work, ticket-few, ticket-count, ticket-record, ticket-sound}
-use Rattle.kept.proofs.Passing.{encode-length, sound-passes}
-use Rattle.kept.proofs.Bytes.{labelOf, label-kept, label-small, Labelled, ticket-length, ticket-records, records-back, netlist-back}
+use Rattle.kept.proofs.Passing.{encode-length}
+use Rattle.kept.proofs.Bytes.{labelOf, label-kept, label-small, Labelled, netlist-back, encoded-count, encoded-passes}
 
 -- labels stay
 abbrev Small : Cell → Type 0
@@ -70,15 +70,8 @@ module _ (words : ℕ) (t : List ℕ) (pass : checkVerdict words t ≡ Pass) (by
   -- a sound netlist as a ticket
   module _ (d : Netlist) (g : ℕ → ℕ) (good : Sound d g) (labelled : Labelled d) where
     result-passes : length (d .cells) ≤ length (ticket .cells) → checkVerdict words (encoded d) ≡ Pass
-    unfolding checkVerdict checkStages
     result-passes l =
-        let f : length (ticket .cells) ≤ 512 = ticket-few words t pass in
-        let n : length (encode d) ≡ length (d .cells) = encode-length d g good in
-        first-passes (workStage words) _ (ticket-work words t pass)
-        ∙ first-passes (lengthStage (encoded d)) _ (ap not (eq-eqb (length (encoded d) % 16) 0 (omega (arith, ticket-length (encode d)))))
-        ∙ first-passes (sizeStage (encoded d)) _ (le-ltb 512 (length (encoded d) / 16) (omega (arith, ticket-records (encode d))))
-        ∙ ap (λ rs. firstOf (netlistStages rs)) (records-back d g good labelled)
-        ∙ sound-passes d g good
+        encoded-passes d g good labelled words (ticket-work words t pass) (omega (arith, l, encoded-count d g good labelled, ticket-few words t pass))
 
     same-stages : length (inputSlots (d .cells)) ≡ length (inputSlots (ticket .cells)) → (stimulus : List ℕ)
         → stimulusStages (decoded (encoded d) .cells) stimulus ≡ stimulusStages (ticket .cells) stimulus
@@ -140,37 +133,37 @@ pub merge-keeps : (words : ℕ) (t : List ℕ) → Bytes t → checkVerdict word
 merge-keeps words t bytes pass = merge-kept words t pass bytes
 
 -- over the calls: where one answers with a count, that many bytes of the reply are such a ticket
+pub written-first : (v : Verdict) (reply bytes : List ℕ) (n : ℕ) → v ≡ Pass → n ≡ length bytes → take n (replyAfter v reply bytes) ≡ bytes
+unfolding put
+written-first v reply bytes n e q =
+    ap₂ (λ (k : ℕ) (w : Verdict). take k (replyAfter w reply bytes)) q e ∙ take-append-seam bytes (drop (length bytes) reply)
+
+pub written-count : (v : Verdict) (k n : ℕ) → writtenBy v k ≡ written.Accepted n → (v ≡ Pass) × (n ≡ k)
+written-count Pass k n e = (refl, cc)
+written-count (Refused r) k n e = let z : _≡_ {A = ℕ} 0 1 = cc in absurd (omega arith)
+
+pub merged-count : (v : Verdict) (k n : ℕ) (b changed : Bool) → mergedBy v k b ≡ merged.Accepted n changed → (v ≡ Pass) × (n ≡ k)
+merged-count Pass k n b changed e = (refl, cc)
+merged-count (Refused r) k n b changed e = let z : _≡_ {A = ℕ} 0 1 = cc in absurd (omega arith)
+
 module _ (words : ℕ) (t reply : List ℕ) where
   -- a call that checks the ticket, then asks for room
-  module _ (bytes : List ℕ) (v : Verdict) (is : firstOf (checkStages words t ++ (room reply bytes ∷ [])) ≡ v) where
-    written-first : (n : ℕ) → v ≡ Pass → n ≡ length bytes → take n (replyAfter v reply bytes) ≡ bytes
-    unfolding put
-    written-first n e q = ap₂ (λ (k : ℕ) (w : Verdict). take k (replyAfter w reply bytes)) q e ∙ take-append-seam bytes (drop (length bytes) reply)
-
-    checked-first : v ≡ Pass → checkVerdict words t ≡ Pass
-    unfolding checkVerdict
-    checked-first e = passes-both (checkStages words t) (room reply bytes ∷ []) (is ∙ e) .0
-
-  pub written-count : (v : Verdict) (k n : ℕ) → writtenBy v k ≡ written.Accepted n → (v ≡ Pass) × (n ≡ k)
-  written-count Pass k n e = (refl, cc)
-  written-count (Refused r) k n e = let z : _≡_ {A = ℕ} 0 1 = cc in absurd (omega arith)
-
-  merged-count : (v : Verdict) (k n : ℕ) (b changed : Bool) → mergedBy v k b ≡ merged.Accepted n changed → (v ≡ Pass) × (n ≡ k)
-  merged-count Pass k n b changed e = (refl, cc)
-  merged-count (Refused r) k n b changed e = let z : _≡_ {A = ℕ} 0 1 = cc in absurd (omega arith)
+  checked-first : (bytes : List ℕ) → firstOf (checkStages words t ++ (room reply bytes ∷ [])) ≡ Pass → checkVerdict words t ≡ Pass
+  unfolding checkVerdict
+  checked-first bytes e = passes-both (checkStages words t) (room reply bytes ∷ []) e .0
 
   pub compact-call : (n : ℕ) → Bytes t → compactAnswer words t reply ≡ written.Accepted n → Kept words t (take n (compactReply words t reply))
   unfolding compactAnswer compactReply compactVerdict
   compact-call n bytes e =
       let v : Verdict = compactVerdict words t reply in
       let a = written-count v (length (compactBytes t)) n e in
-      subst (Kept words t) (sym (written-first (compactBytes t) v refl n (a .0) (a .1)))
-      (compact-keeps words t bytes (checked-first (compactBytes t) v refl (a .0)))
+      subst (Kept words t) (sym (written-first v reply (compactBytes t) n (a .0) (a .1)))
+      (compact-keeps words t bytes (checked-first (compactBytes t) (a .0)))
 
   pub merge-call : (n : ℕ) (changed : Bool) → Bytes t → mergeAnswer words t reply ≡ merged.Accepted n changed → Kept words t (take n (mergeReply words t reply))
   unfolding mergeAnswer mergeReply mergeVerdict
   merge-call n changed bytes e =
       let v : Verdict = mergeVerdict words t reply in
       let a = merged-count v (length (mergeBytes t)) n (merge (decoded t) .1) changed e in
-      subst (Kept words t) (sym (written-first (mergeBytes t) v refl n (a .0) (a .1)))
-      (merge-keeps words t bytes (checked-first (mergeBytes t) v refl (a .0)))
+      subst (Kept words t) (sym (written-first v reply (mergeBytes t) n (a .0) (a .1)))
+      (merge-keeps words t bytes (checked-first (mergeBytes t) (a .0)))

@@ -2,15 +2,15 @@
 use mathlib.Core.Path.{_≡_, sym, ap, _∙_, subst}
 use mathlib.Core.Bool.{Bool, true, false, cond}
 use mathlib.Core.List.{List, [], _∷_, _++_, append-nil}
-use Prim.Native.Nat.{ℕ, zero, suc, _≤_, _<_}
+use Prim.Native.Nat.{ℕ, zero, suc, _≤_, _<_, _+_}
 use native.Mathlib.Omega.{arith}
 use native.Mathlib.Decide.{decLt}
 use lib.ListN.{length, getD, length-append, List·getD-append}
 use lib.Seq.{getD-append-seam}
 use Rattle.cell.specs.Tabulate.{tabulate}
 use Rattle.netlist.specs.Netlist.{those, slots}
-use Rattle.order_laws.proofs.Walks.{either}
-use Rattle.kept.proofs.Lists.{those-append}
+use Rattle.order.proofs.Bits.{those-append}
+use Rattle.order_laws.proofs.Truth.{either}
 
 module _ (p : ℕ → Bool) where
   unfoldable pub chosen : ℕ → List ℕ
@@ -32,6 +32,13 @@ module _ (p : ℕ → Bool) where
 
   pub count-no : (n : ℕ) → p n ≡ false → count (suc n) ≡ count n
   count-no n e = ap length (chosen-no n e)
+
+  -- none passes from slot n on
+  pub chosen-rest : (n k : ℕ) → ((i : ℕ) → n ≤ i → i < n + k → p i ≡ false) → chosen (n + k) ≡ chosen n
+  chosen-rest n zero h = ap chosen (let q : n + 0 ≡ n = omega arith in q)
+  chosen-rest n (suc k) h =
+      ap chosen (let q : n + suc k ≡ suc (n + k) = omega arith in q)
+      ∙ chosen-no (n + k) (h (n + k) (omega arith) (omega arith)) ∙ chosen-rest n k (λ i a b. h i a (omega arith))
 
   pub count-le : (n : ℕ) → count n ≤ n
   unfolding chosen tabulate those

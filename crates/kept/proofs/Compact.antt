@@ -19,23 +19,22 @@ use Rattle.cell.specs.declared.Record.{Record}
 use Rattle.cell.specs.declared.Cell.{Cell}
 use Rattle.cell.specs.declared.Cell.the-variants.{Input}
 use Rattle.cell.specs.Records.{cellRecord}
+use Rattle.checking.specs.Checking.{outOfSequence}
 use Rattle.netlist.specs.Shape.{visit, visitMut, isOutput}
 use Rattle.netlist.specs.Netlist.{Netlist, cellIn}
-use Rattle.design.specs.Queue.{netIn}
 use Rattle.design.specs.Compact.{keep, isKept, keptSlots, countKept, renumbered, netMap, compact}
-use Rattle.checking.specs.Checking.{outOfSequence}
-use Rattle.order_laws.proofs.Walks.{either}
-use Rattle.levels_laws.specs.Algebra.{Algebra, All, netValue, cellValue, Fits, Before, Ranked}
-use Rattle.levels_laws.proofs.Operands.{all-imp, all-both, all-map, visit-visitMut, value-const, value-slot, cell-same, cell-visitMut}
-use Rattle.kept.proofs.Lists.{getD-mapped}
+use Rattle.order_laws.specs.Members.{All, Drives}
+use Rattle.order_laws.proofs.Truth.{either}
+use Rattle.order_laws.proofs.Members.{all-imp, all-both}
+use Rattle.order_laws.proofs.Operands.{drives-at, drives-none, visited-all}
+use Rattle.order_laws.proofs.Lists.{getD-mapped}
+use Rattle.order_laws.proofs.Sorts.{record-bit, output-mapped}
+use Rattle.levels_laws.specs.Algebra.{Algebra, netValue, cellValue, Fits, Before, Ranked}
+use Rattle.levels_laws.proofs.Operands.{value-const, value-slot, cell-same, cell-visitMut}
 use Rattle.kept.proofs.Chosen.{chosen, count, count-yes, count-le, PlaceOf, place-of, SlotAt, slot-at}
-use Rattle.kept.proofs.Records.{record-bit, output-mapped, Continues, sequence-zero, sequence-more, continues-mapped}
+use Rattle.kept.proofs.Records.{Continues, sequence-zero, sequence-more, continues-mapped}
 use Rattle.kept.proofs.Sound.{recordIn, NoOutput, Sound, Inner, inner, bit-continues}
 use Rattle.kept.proofs.Keep.{KeptNet, reads-kept}
-
--- a slot of a netlist drives the net with its number
-pub driver-in : (k : ℕ) → k ≤ 65536 → driver (netIn k) ≡ driven.Cell (slotAt k)
-driver-in k h = driver-cell (slotAt k) (omega arith)
 
 module _ (d : Netlist) (rank : ℕ → ℕ) (sound : Sound d rank) where
   abbrev pub kept : ℕ → Bool
@@ -78,11 +77,11 @@ module _ (d : Netlist) (rank : ℕ → ℕ) (sound : Sound d rank) where
   unfolding netMap
   mapped-const m t e = ap (λ x. driver (renumbered (d .bits) (keep d) m x)) e ∙ e
 
-  mapped-slot : (m : Net) (x : Slot) → driver m ≡ driven.Cell x → x .0 < total → driver (mapped m) ≡ driven.Cell (slotAt (count kept (x .0)))
+  pub mapped-slot : (m : Net) (x : Slot) → driver m ≡ driven.Cell x → x .0 < total → driver (mapped m) ≡ driven.Cell (slotAt (count kept (x .0)))
   unfolding netMap countKept keptSlots chosen
   mapped-slot m x e l =
       ap (λ y. driver (renumbered (d .bits) (keep d) m y)) e
-      ∙ driver-in (count kept (x .0)) (let f : total ≤ 65536 = sound .few in let c : count kept (x .0) ≤ x .0 = count-le kept (x .0) in omega arith)
+      ∙ driver-cell (slotAt (count kept (x .0))) (let f : total ≤ 65536 = sound .few in let c : count kept (x .0) ≤ x .0 = count-le kept (x .0) in omega arith)
 
   abbrev Operand : ℕ → Net → Type 0
   Operand s m = Before (d .cells) rank s m × KeptNet d rank sound m
@@ -92,18 +91,12 @@ module _ (d : Netlist) (rank : ℕ → ℕ) (sound : Sound d rank) where
   operands s l k = all-both (Before (d .cells) rank s) (KeptNet d rank sound) (visit (cellIn (d .cells) s)) (sound .ranked s l) (reads-kept d rank sound s l k)
 
   -- what holds of the new slot of each operand
-  mapped-has : (Q : ℕ → Type 0) (s : ℕ) (m : Net) → Operand s m → ((x : Slot) → driver m ≡ driven.Cell x → Q (count kept (x .0)))
-      → (y : Slot) → driver (mapped m) ≡ driven.Cell y → Q (y .0)
-  mapped-has Q s m o h y e = go (driver m) refl
+  mapped-has : (Q : ℕ → Type 0) (s : ℕ) (m : Net) → Operand s m → Drives (λ x. Q (count kept x)) m → Drives Q (mapped m)
+  mapped-has Q s m o h = go (driver m) refl
     where
-      go : (r : Driver) → driver m ≡ r → Q (y .0)
-      go (driven.Const t) q =
-          let z : driven.Const t ≡ driven.Cell y = sym (mapped-const m t q) ∙ e in
-          let w : _≡_ {A = ℕ} 0 1 = cc in absurd (omega arith)
-      go (driven.Cell x) q =
-          let z : driven.Cell (slotAt (count kept (x .0))) ≡ driven.Cell y = sym (mapped-slot m x q (o .0 x q .0)) ∙ e in
-          let w : slotAt (count kept (x .0)) ≡ y = cc in
-          subst (λ (i : Slot). Q (i .0)) w (h x q)
+      go : (r : Driver) → driver m ≡ r → Drives Q (mapped m)
+      go (driven.Const t) q = drives-none Q (mapped m) t (mapped-const m t q)
+      go (driven.Cell x) q = drives-at Q (mapped m) (slotAt (count kept (x .0))) (mapped-slot m x q (o .0 x q .0)) (h x q)
 
   -- a valuation goes along
   module _ {A : Type 0} (alg : Algebra A) (v : ℕ → A) where
@@ -142,9 +135,7 @@ module _ (d : Netlist) (rank : ℕ → ℕ) (sound : Sound d rank) where
       subst P (sym (cell-at j k)) (h mapped (cellIn (d .cells) (old j)) (g (old j) (slot-at kept total j k .small)))
 
   visits : (P : Net → Type 0) (j : ℕ) → j < count kept total → All (λ m. P (mapped m)) (visit (cellIn (d .cells) (old j))) → All P (visit (cellIn (compact d .cells) j))
-  visits P j l h =
-      subst (All P) (sym (ap visit (cell-at j l) ∙ visit-visitMut mapped (cellIn (d .cells) (old j))))
-      (all-map mapped P (visit (cellIn (d .cells) (old j))) h)
+  visits P j l h = subst (λ (c : Cell). All P (visit c)) (sym (cell-at j l)) (visited-all P mapped (cellIn (d .cells) (old j)) h)
 
   place-old : (x : ℕ) → x < total → kept x ≡ true → old (count kept x) ≡ x
   place-old x l k = place-of kept total x l k .at

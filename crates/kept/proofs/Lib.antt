@@ -1,4 +1,3 @@
-pub mod Lists
 pub mod Chosen
 pub mod Records
 pub mod Sound

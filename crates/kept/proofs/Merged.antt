@@ -13,19 +13,23 @@ use Rattle.value.specs.declared.Net.{Net}
 use Rattle.cell.specs.declared.Cell.{Cell}
 use Rattle.cell.specs.declared.Cell.the-variants.{Input}
 use Rattle.cell.specs.Records.{cellRecord}
+use Rattle.checking.specs.Checking.{outOfSequence}
 use Rattle.netlist.specs.Shape.{visit, visitMut, isInput, isOutput}
 use Rattle.netlist.specs.Netlist.{Netlist, cellIn, slots, those}
 use Rattle.design.specs.Queue.{mapNetNew, applied}
 use Rattle.merge.specs.Merge.{merging, merge}
-use Rattle.checking.specs.Checking.{outOfSequence}
 use Rattle.levels.specs.Evaluate.{levels, givenLevels, inputSlots, outputSlots, outputLevels}
-use Rattle.levels_laws.specs.Algebra.{Algebra, All, netValue, cellValue, Fits, Before, Ranked}
+use Rattle.order_laws.specs.Members.{All}
+use Rattle.order_laws.proofs.Members.{all-imp, all-both, all-tabulate, all-those, those-same}
+use Rattle.order_laws.proofs.Operands.{visited-all}
+use Rattle.order_laws.proofs.Lists.{getD-mapped, map-same}
+use Rattle.order_laws.proofs.Sorts.{input-mapped, output-mapped}
+use Rattle.levels_laws.specs.Algebra.{Algebra, netValue, cellValue, Fits, Before, Ranked}
 use Rattle.levels_laws.specs.Instances.{kleene, size, sizesIn}
-use Rattle.levels_laws.proofs.Operands.{all-imp, all-both, all-map, visit-visitMut, value-slot}
+use Rattle.levels_laws.proofs.Operands.{value-slot}
 use Rattle.levels_laws.proofs.Valuations.{unique}
 use Rattle.levels_laws.proofs.Levels.{levels-fit, sizes-fit, size-grows}
-use Rattle.kept.proofs.Lists.{getD-mapped, all-tabulate, all-those, those-same, map-same}
-use Rattle.kept.proofs.Records.{input-mapped, output-mapped, sequence-mapped}
+use Rattle.kept.proofs.Records.{sequence-mapped}
 use Rattle.kept.proofs.Sound.{recordIn, NoOutput, Sound}
 use Rattle.kept.proofs.Compact.{old, compact-each, compact-shorter, compact-sound}
 use Rattle.kept.proofs.Outputs.{compact-inputs, compact-keeps-levels}
@@ -91,8 +95,8 @@ module _ (d : Netlist) (rank : ℕ → ℕ) (sound : Sound d rank) where
 
   visits : (P : Net → Type 0) (s : ℕ) → s < total → ((m : Net) → Operand s m → P (mapped m)) → All P (visit (cellIn (rewired .cells) s))
   visits P s l h =
-      subst (All P) (sym (ap visit (cell-at s l) ∙ visit-visitMut mapped (cellIn (d .cells) s)))
-      (all-map mapped P (visit (cellIn (d .cells) s)) (all-imp (Operand s) (λ m. P (mapped m)) h (visit (cellIn (d .cells) s)) (operands s l)))
+      subst (λ (c : Cell). All P (visit c)) (sym (cell-at s l))
+      (visited-all P mapped (cellIn (d .cells) s) (all-imp (Operand s) (λ m. P (mapped m)) h (visit (cellIn (d .cells) s)) (operands s l)))
 
   rewired-ranked : Ranked (rewired .cells) sizes
   unfolding Ranked

@@ -14,13 +14,13 @@ use Rattle.netlist.specs.Shape.{visitMut, isInput, isOutput, hasEffects}
 use Rattle.netlist.specs.Netlist.{Netlist, cellIn, slots, those}
 use Rattle.design.specs.Compact.{keep, netMap, compact}
 use Rattle.levels.specs.Evaluate.{levels, givenLevels, inputSlots, outputSlots, outputLevels}
-use Rattle.order_laws.proofs.Walks.{or-left, or-right}
+use Rattle.order_laws.proofs.Members.{all-tabulate, all-those, those-those, those-same, map-those}
+use Rattle.order_laws.proofs.Lists.{map-same, map-slots}
+use Rattle.order_laws.proofs.Sorts.{input-mapped, output-mapped, input-effects, output-effects}
 use Rattle.levels_laws.specs.Instances.{kleene}
 use Rattle.levels_laws.proofs.Valuations.{unique, fits-own}
 use Rattle.levels_laws.proofs.Levels.{levels-fit}
-use Rattle.kept.proofs.Lists.{all-tabulate, all-those, those-those, those-same, map-those, map-same, map-slots}
 use Rattle.kept.proofs.Chosen.{chosen, count, SlotAt, slot-at}
-use Rattle.kept.proofs.Records.{input-mapped, output-mapped}
 use Rattle.kept.proofs.Sound.{Sound}
 use Rattle.kept.proofs.Keep.{effects-kept}
 use Rattle.kept.proofs.Stimulus.{same-given}
@@ -56,14 +56,6 @@ module _ (d : Netlist) (rank : ℕ → ℕ) (sound : Sound d rank) where
         ∙ ap (λ (k : ℕ). those is (map from (slots k))) (compact-length d rank sound)
         ∙ ap (those is) (map-slots 0 (chosen p n))
         ∙ those-those p is (slots n) (all-tabulate (λ s. is s ≡ true → p s ≡ true) (λ s. s) n sort-kept)
-
-  input-effects : (c : Cell) → isInput c ≡ true → hasEffects c ≡ true
-  unfolding hasEffects
-  input-effects c e = or-left (isInput c) (isOutput c) e
-
-  output-effects : (c : Cell) → isOutput c ≡ true → hasEffects c ≡ true
-  unfolding hasEffects
-  output-effects c e = or-right (isInput c) (isOutput c) e
 
   pub outputs-kept : map from (outputSlots (compact d .cells)) ≡ outputSlots (d .cells)
   unfolding outputSlots

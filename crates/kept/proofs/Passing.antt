@@ -1,6 +1,6 @@
 -- The records of a sound netlist pass checking. Assumes nothing.
 use mathlib.Core.Path.{_≡_, refl, sym, ap, _∙_}
-use mathlib.Core.Bool.{Bool, true, false, _&&_}
+use mathlib.Core.Bool.{Bool, true, false, _&&_, not}
 use mathlib.Core.List.{List, []}
 use Prim.Native.Nat.{ℕ, zero, suc, _-_, _<_}
 use native.Mathlib.Omega.{arith}
@@ -15,38 +15,29 @@ use Rattle.value.specs.Value.{netAt, driver}
 use Rattle.cell.specs.declared.Record.{Record}
 use Rattle.cell.specs.declared.Cell.{Cell}
 use Rattle.cell.specs.declared.Cell.the-variants.{Input, Output, Buf, Not, And, Or, Xor, Mux, Aig}
-use Rattle.cell.specs.Kinds.{kindOf, fieldOf, isOperand, edgeAt}
+use Rattle.cell.specs.Kinds.{kindOf, fieldOf, isOperand}
 use Rattle.cell.specs.Records.{recordOf, recordIn, cellRecord}
 use Rattle.cell.proofs.Lists.{tabulate-length, tabulate-at}
-use Rattle.netlist.specs.Shape.{visit}
-use Rattle.netlist.specs.Netlist.{Netlist, cellIn, encode}
 use Rattle.loops.specs.Reach.{OnLoop}
-use Rattle.loops.proofs.Edges.{edge-below}
 use Rattle.loops.proofs.Reach.{onLoop-false}
-use Rattle.loops.proofs.Rank.{falls-no-loop}
 use Rattle.checking.specs.declared.Verdict.the-variants.{Pass}
 use Rattle.checking.specs.Refusals.{Stage, firstOf, slotBySlot}
 use Rattle.checking.specs.Checking.{unknownKind, reservedField, bitOutOfSequence, undriven, undrivenField, undrivenOperand, kindStage, fieldStage, bitStage, operandStage, loopStage, recordStages, loopStages, netlistStages}
 use Rattle.checking.proofs.Stages.{first-passes, no-stage, later-decides}
-use Rattle.levels_laws.specs.Algebra.{All, Before, Ranked}
-use Rattle.levels_laws.proofs.Operands.{all-imp, all-both}
-use Rattle.levels_laws.proofs.Edges.{FieldHas, fields-have, edges-have}
-use Rattle.kept.proofs.Records.{output-kind}
+use Rattle.netlist.specs.Shape.{visit}
+use Rattle.netlist.specs.Netlist.{Netlist, cellIn, encode}
+use Rattle.order_laws.specs.Members.{All, Wired}
+use Rattle.order_laws.proofs.Members.{all-imp}
+use Rattle.order_laws.proofs.Sorts.{output-kind, kind-known}
+use Rattle.order_laws.proofs.Edges.{fields-have, FieldHas}
+use Rattle.levels_laws.proofs.Ranks.{ranked-no-loop}
 use Rattle.kept.proofs.Sound as sound
-use Rattle.kept.proofs.Sound.{NoOutput, Sound}
+use Rattle.kept.proofs.Sound.{Sound, sound-wired}
 
 -- 4 and 5: the record of a cell has a kind, and its unused fields are 0
 known-kind : (bit : ℕ) (c : Cell) → unknownKind (cellRecord bit c) ≡ false
-unfolding unknownKind cellRecord kindOf
-known-kind bit (Input l) = refl
-known-kind bit (Output a l) = refl
-known-kind bit (Buf a) = refl
-known-kind bit (Not a) = refl
-known-kind bit (And a b) = refl
-known-kind bit (Or a b) = refl
-known-kind bit (Xor a b) = refl
-known-kind bit (Mux a b c) = refl
-known-kind bit (Aig p q) = refl
+unfolding unknownKind
+known-kind bit c = ap not (kind-known bit c)
 
 unused-zero : (bit : ℕ) (c : Cell) → reservedField (cellRecord bit c) ≡ false
 unfolding reservedField cellRecord kindOf
@@ -98,32 +89,23 @@ module _ (d : Netlist) (rank : ℕ → ℕ) (good : Sound d rank) where
   unfolding encode
   encode-at s l = tabulate-at (sound.recordIn d) (length (d .cells)) (recordOf 0 0 0 0 0 0) s l
 
-  net-driven : (s : ℕ) (n : Net) → Before (d .cells) rank s n × NoOutput (d .cells) n → undriven rs (driver n) ≡ false
-  net-driven s n o = go (driver n) refl
+  net-driven : (n : Net) → Wired (d .cells) n → undriven rs (driver n) ≡ false
+  net-driven n o = go (driver n) refl
     where
       go : (r : Driver) → driver n ≡ r → undriven rs r ≡ false
       go (driven.Const t) e = refl
       go (driven.Cell x) e =
-          let i : x .0 < length (d .cells) = o .0 x e .0 in
-          let l : length rs ≡ length (d .cells) = encode-length in
-          rw (lt-ltb (x .0) (length rs) (omega arith))
-          (ap (λ (r : Record). eqb (r .kind) 2) (encode-at (x .0) i)
-          ∙ sym (output-kind (getD (d .bits) (x .0) 0) (cellIn (d .cells) (x .0))) ∙ o .1 x e)
+          rw (lt-ltb (x .0) (length rs) (omega (arith, encode-length, o x e .0)))
+          (ap (λ (r : Record). eqb (r .kind) 2) (encode-at (x .0) (o x e .0))
+          ∙ sym (output-kind (getD (d .bits) (x .0) 0) (cellIn (d .cells) (x .0))) ∙ o x e .1)
 
   operands-driven : (s : ℕ) → s < length (d .cells) → undrivenOperand rs (sound.recordIn d s) ≡ false
-  unfolding Ranked
   operands-driven s l =
       cell-driven rs (getD (d .bits) s 0) (cellIn (d .cells) s)
-      (all-imp (λ n. Before (d .cells) rank s n × NoOutput (d .cells) n) (λ n. undriven rs (driver n) ≡ false) (net-driven s) (visit (cellIn (d .cells) s))
-      (all-both (Before (d .cells) rank s) (NoOutput (d .cells)) (visit (cellIn (d .cells) s)) (good .ranked s l) (good .driven s l)))
+      (all-imp (Wired (d .cells)) (λ n. undriven rs (driver n) ≡ false) net-driven (visit (cellIn (d .cells) s)) (sound-wired d rank good s l))
 
   no-loop : (s : ℕ) → OnLoop rs s → ⊥
-  unfolding Ranked
-  no-loop =
-      falls-no-loop rs rank λ s f x e.
-      let l : s < length (d .cells) = let q : length rs ≡ length (d .cells) = encode-length in let m : s < length rs = edge-below rs s f x e in omega arith in
-      edges-have (λ y. (y .0 < length (d .cells)) × (rank (y .0) < rank s)) (getD (d .bits) s 0) (cellIn (d .cells) s) (good .ranked s l) f x
-      (ap (λ (r : Record). edgeAt r f) (sym (encode-at s l)) ∙ e) .1
+  no-loop = ranked-no-loop (d .cells) rank (good .ranked) rs (λ s. getD (d .bits) s 0) encode-length encode-at
 
   record-passes : (s : ℕ) → s < length rs → firstOf (recordStages rs s) ≡ Pass
   unfolding recordStages bitOutOfSequence

@@ -11,60 +11,13 @@ use Rattle.cell.specs.declared.Cell.{Cell}
 use Rattle.cell.specs.declared.Cell.the-variants.{Input, Output, Buf, Not, And, Or, Xor, Mux, Aig}
 use Rattle.cell.specs.Kinds.{kindOf}
 use Rattle.cell.specs.Records.{cellRecord}
-use Rattle.netlist.specs.Shape.{visitMut, isInput, isOutput}
 use Rattle.checking.specs.Checking.{follows, outOfSequence}
-use Rattle.order_laws.proofs.Walks.{either}
+use Rattle.netlist.specs.Shape.{visitMut}
+use Rattle.order_laws.proofs.Truth.{either}
+use Rattle.order_laws.proofs.Sorts.{kind-kept, record-bit}
 
-pub record-bit : (bit : ℕ) (c : Cell) → cellRecord bit c .bit ≡ bit
-unfolding cellRecord
-record-bit bit (Input l) = refl
-record-bit bit (Output a l) = refl
-record-bit bit (Buf a) = refl
-record-bit bit (Not a) = refl
-record-bit bit (And a b) = refl
-record-bit bit (Or a b) = refl
-record-bit bit (Xor a b) = refl
-record-bit bit (Mux a b c) = refl
-record-bit bit (Aig p q) = refl
-
-pub input-kind : (bit : ℕ) (c : Cell) → isInput c ≡ eqb (cellRecord bit c .kind) 1
-unfolding cellRecord
-input-kind bit (Input l) = refl
-input-kind bit (Output a l) = refl
-input-kind bit (Buf a) = refl
-input-kind bit (Not a) = refl
-input-kind bit (And a b) = refl
-input-kind bit (Or a b) = refl
-input-kind bit (Xor a b) = refl
-input-kind bit (Mux a b c) = refl
-input-kind bit (Aig p q) = refl
-
-pub output-kind : (bit : ℕ) (c : Cell) → isOutput c ≡ eqb (cellRecord bit c .kind) 2
-unfolding cellRecord
-output-kind bit (Input l) = refl
-output-kind bit (Output a l) = refl
-output-kind bit (Buf a) = refl
-output-kind bit (Not a) = refl
-output-kind bit (And a b) = refl
-output-kind bit (Or a b) = refl
-output-kind bit (Xor a b) = refl
-output-kind bit (Mux a b c) = refl
-output-kind bit (Aig p q) = refl
-
--- a function put to each operand leaves the kind, and field a where all bits of a cell have it in common changes by the kind alone
+-- field a, where all bits of a cell have it in common, changes by the kind alone under a function put to each operand
 module _ (f : Net → Net) where
-  pub kind-kept : (bit : ℕ) (c : Cell) → cellRecord bit (visitMut f c) .kind ≡ cellRecord bit c .kind
-  unfolding visitMut cellRecord
-  kind-kept bit (Input l) = refl
-  kind-kept bit (Output a l) = refl
-  kind-kept bit (Buf a) = refl
-  kind-kept bit (Not a) = refl
-  kind-kept bit (And a b) = refl
-  kind-kept bit (Or a b) = refl
-  kind-kept bit (Xor a b) = refl
-  kind-kept bit (Mux a b c) = refl
-  kind-kept bit (Aig p q) = refl
-
   commonMapped : ℕ → ℕ → ℕ
   commonMapped kind a = cond (eqb kind 8) (f (netAt a) .0) a
 
@@ -80,12 +33,6 @@ module _ (f : Net → Net) where
   common-mapped bit (Xor a b) e = absurd (false≢true e)
   common-mapped bit (Mux a b c) e = refl
   common-mapped bit (Aig p q) e = absurd (false≢true e)
-
-pub input-mapped : (f : Net → Net) (c : Cell) → isInput (visitMut f c) ≡ isInput c
-input-mapped f c = input-kind 0 (visitMut f c) ∙ ap (λ (k : ℕ). eqb k 1) (kind-kept f 0 c) ∙ sym (input-kind 0 c)
-
-pub output-mapped : (f : Net → Net) (c : Cell) → isOutput (visitMut f c) ≡ isOutput c
-output-mapped f c = output-kind 0 (visitMut f c) ∙ ap (λ (k : ℕ). eqb k 2) (kind-kept f 0 c) ∙ sym (output-kind 0 c)
 
 -- p is the bit before r in one cell
 pub record Precedes (p r : Record) : Type 0 where

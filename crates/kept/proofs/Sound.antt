@@ -6,30 +6,30 @@ use Prim.Native.Nat.{ℕ, zero, suc, _+_, _-_, _≤_, _<_}
 use native.Mathlib.Omega.{arith}
 use native.Mathlib.Decide.{decLt}
 use lib.Dec.{eqb}
-use lib.ListN.{length, getD, drop, List·getD-eq-default}
+use lib.ListN.{length, getD, drop}
 use lib.Seq.{getD-drop}
 use borrow.Author.Tests.{eqb-true, eqb-false, eq-eqb, ne-eqb}
 use Rattle.value.specs.declared.Net.{Net}
-use Rattle.value.specs.declared.Slot.{Slot}
-use Rattle.value.specs.declared.Driver.the-variants as driven
-use Rattle.value.specs.Value.{driver}
 use Rattle.cell.specs.declared.Record.{Record}
 use Rattle.cell.specs.declared.Cell.{Cell}
 use Rattle.cell.specs.Records.{cellRecord}
-use Rattle.netlist.specs.Shape.{visit, isOutput, hasEffects}
-use Rattle.netlist.specs.Netlist.{Netlist, cellIn, run, startOf, outputOf}
 use Rattle.checking.specs.Checking.{outOfSequence}
+use Rattle.netlist.specs.Shape.{visit, isOutput}
+use Rattle.netlist.specs.Netlist.{Netlist, cellIn, run, startOf, outputOf}
 use Rattle.order_laws.specs.Ordered.{has}
-use Rattle.levels_laws.specs.Algebra.{All, Ranked}
-use Rattle.kept.proofs.Lists.{has-tabulate, all-tabulate}
-use Rattle.kept.proofs.Records.{record-bit, input-kind, output-kind, Continues, continues}
+use Rattle.order_laws.specs.Members.{All, Drives, Wired}
+use Rattle.order_laws.proofs.Members.{has-tabulate, all-tabulate, all-both, all-imp}
+use Rattle.order_laws.proofs.Sorts.{record-bit, ByKind, same-sort}
+use Rattle.order_laws.proofs.Lists.{getD-inside}
+use Rattle.levels_laws.specs.Algebra.{Ranked, Before}
+use Rattle.kept.proofs.Records.{Continues, continues}
 
 abbrev pub recordIn : Netlist → ℕ → Record
 recordIn d s = cellRecord (getD (d .bits) s 0) (cellIn (d .cells) s)
 
 -- a net that no output drives
 abbrev pub NoOutput : List Cell → Net → Type 0
-NoOutput cs n = (x : Slot) → driver n ≡ driven.Cell x → isOutput (cellIn cs (x .0)) ≡ false
+NoOutput cs = Drives (λ x. isOutput (cellIn cs x) ≡ false)
 
 pub record Sound (d : Netlist) (rank : ℕ → ℕ) : Type 0 where
   pub wide : length (d .bits) ≡ length (d .cells)
@@ -84,11 +84,7 @@ module _ (d : Netlist) (rank : ℕ → ℕ) (sound : Sound d rank) where
       }
 
   bit-inside : (s : ℕ) → (bitAt s ≡ 0 → ⊥) → s < length (d .cells)
-  bit-inside s h = go (decLt s (length (d .cells)))
-    where
-      go : Dec (s < length (d .cells)) → s < length (d .cells)
-      go (yes l) = l
-      go (no l) = absurd (h (List·getD-eq-default (d .bits) 0 (let w : length (d .bits) ≡ length (d .cells) = sound .wide in omega arith)))
+  bit-inside s h = omega (arith, sound .wide, getD-inside (d .bits) s 0 h)
 
   -- from a bit back to the start of its cell
   pub record Back (b s : ℕ) : Type 0 where
@@ -168,8 +164,17 @@ module _ (d : Netlist) (rank : ℕ → ℕ) (sound : Sound d rank) where
   unfolding outputOf
   output-bits s l = all-tabulate (Bit s) (λ i. s + i) (suc (run (drop (s + 1) (d .bits)))) (λ j h. onward s l j (omega arith))
 
-  -- the sort of a cell is that of each of its bits
-  pub effects-by-kind : (s i : ℕ) → recordIn d i .kind ≡ recordIn d s .kind → hasEffects (cellIn (d .cells) i) ≡ hasEffects (cellIn (d .cells) s)
-  unfolding hasEffects
-  effects-by-kind s i e =
-      rw (input-kind (bitAt i) (cellIn (d .cells) i), output-kind (bitAt i) (cellIn (d .cells) i), input-kind (bitAt s) (cellIn (d .cells) s), output-kind (bitAt s) (cellIn (d .cells) s), e)
+  -- what the kind decides of a cell is the same of each of its bits
+  pub same-by : {sort : Cell → Bool} → ByKind sort → (s i : ℕ) → recordIn d i .kind ≡ recordIn d s .kind → sort (cellIn (d .cells) i) ≡ sort (cellIn (d .cells) s)
+  same-by by s i e = same-sort by (bitAt i) (bitAt s) (cellIn (d .cells) i) (cellIn (d .cells) s) e
+
+  -- each operand is driven by a slot of lower rank that is no output
+  pub sound-operands : (s : ℕ) → s < length (d .cells) → All (λ n. Before (d .cells) rank s n × NoOutput (d .cells) n) (visit (cellIn (d .cells) s))
+  unfolding Ranked
+  sound-operands s l =
+      all-both (Before (d .cells) rank s) (NoOutput (d .cells)) (visit (cellIn (d .cells) s)) (sound .ranked s l) (sound .driven s l)
+
+  pub sound-wired : (s : ℕ) → s < length (d .cells) → All (Wired (d .cells)) (visit (cellIn (d .cells) s))
+  sound-wired s l =
+      all-imp (λ n. Before (d .cells) rank s n × NoOutput (d .cells) n) (Wired (d .cells)) (λ n o x e. (o .0 x e .0, o .1 x e)) (visit (cellIn (d .cells) s))
+      (sound-operands s l)

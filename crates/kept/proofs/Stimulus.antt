@@ -16,7 +16,8 @@ use Rattle.cell.proofs.Lists.{tabulate-length}
 use Rattle.netlist.specs.Shape.{isInput}
 use Rattle.netlist.specs.Netlist.{slots, those}
 use Rattle.levels.specs.Evaluate.{givenLevels}
-use Rattle.order_laws.proofs.Walks.{either}
+use Rattle.levels.proofs.Given.{given-length}
+use Rattle.order_laws.proofs.Truth.{either}
 use Rattle.kept.proofs.Chosen.{chosen, count, chosen-yes, chosen-no, place-of}
 
 -- how many inputs there are
@@ -38,11 +39,6 @@ given-snoc (x ∷ cs) c bs =
     go : (b : Bool) → ownLevel c (cond b (drop 1 bs) bs) (inputs cs) ≡ ownLevel c bs (cond b (suc (inputs cs)) (inputs cs))
     go true = ap (λ (i : ℕ). cond (isInput c) (levelOf i) Undef) (getD-drop 1 bs (inputs cs) 2 ∙ ap (λ (k : ℕ). getD bs k 2) (omega arith))
     go false = refl
-
-given-length : (cs : List Cell) (bs : List ℕ) → length (givenLevels cs bs) ≡ length cs
-unfolding givenLevels
-given-length [] bs = refl
-given-length (c ∷ cs) bs = ap suc (given-length cs (cond (isInput c) (drop 1 bs) bs))
 
 inputs-snoc : (cs : List Cell) (c : Cell) → inputs (cs ++ (c ∷ [])) ≡ inputs cs + cond (isInput c) 1 0
 unfolding inputs

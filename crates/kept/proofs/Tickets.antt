@@ -11,13 +11,13 @@ use Rattle.logic.specs.declared.Trit.{Trit}
 use Rattle.logic.specs.declared.Trit.the-variants.{Undef}
 use Rattle.cell.specs.Records.{recordAt, recordsOf, cellRecord}
 use Rattle.cell.proofs.Lists.{records-length, records-at}
-use Rattle.netlist.specs.Netlist.{Netlist, cellIn}
 use Rattle.loops.proofs.Rank.{rank}
-use Rattle.levels.specs.Evaluate.{levels}
 use Rattle.checking.specs.declared.Verdict.the-variants.{Pass}
 use Rattle.checking.specs.Refusals.{Stage, firstOf}
 use Rattle.checking.specs.Checking.{workStage, lengthStage, sizeStage, netlistStages, checkStages}
 use Rattle.checking.proofs.Stages.{passed-exactly, passes-both}
+use Rattle.netlist.specs.Netlist.{Netlist, cellIn}
+use Rattle.levels.specs.Evaluate.{levels}
 use Rattle.calls.specs.Calls.{decoded, checkVerdict}
 use Rattle.levels_laws.specs.Instances.{LevelsFit}
 use Rattle.levels_laws.proofs.Levels.{levels-are, levels-only}
@@ -32,6 +32,9 @@ module _ (words : ℕ) (t : List ℕ) (pass : checkVerdict words t ≡ Pass) whe
   unfolding checkVerdict checkStages
   parts = passes-both stages (netlistStages (recordsOf t)) pass
 
+  pub ticket-passes : firstOf (netlistStages (recordsOf t)) ≡ Pass
+  ticket-passes = parts .1
+
   pub ticket-work : ltb words 16384 ≡ false
   ticket-work = passed-exactly stages .0 (parts .0) 0 (omega arith)
 
@@ -44,7 +47,7 @@ module _ (words : ℕ) (t : List ℕ) (pass : checkVerdict words t ≡ Pass) whe
   ticket = decoded t
 
   slots-records : length (ticket .cells) ≡ length (recordsOf t)
-  slots-records = netlist-length (recordsOf t) (omega (arith, few)) (parts .1)
+  slots-records = netlist-length (recordsOf t) (omega (arith, few)) ticket-passes
 
   pub ticket-count : length (ticket .cells) ≡ length t / 16
   ticket-count = slots-records ∙ records-length t
@@ -54,10 +57,10 @@ module _ (words : ℕ) (t : List ℕ) (pass : checkVerdict words t ≡ Pass) whe
 
   pub ticket-record : (s : ℕ) → s < length (ticket .cells) → cellRecord (getD (ticket .bits) s 0) (cellIn (ticket .cells) s) ≡ recordAt t s
   ticket-record s l =
-      netlist-record (recordsOf t) (omega (arith, few)) (parts .1) s (omega (arith, slots-records)) ∙ records-at t s (omega (arith, ticket-count))
+      netlist-record (recordsOf t) (omega (arith, few)) ticket-passes s (omega (arith, slots-records)) ∙ records-at t s (omega (arith, ticket-count))
 
   pub ticket-sound : Sound ticket (rank (recordsOf t))
-  ticket-sound = accepted-sound (recordsOf t) (omega (arith, few)) (parts .1)
+  ticket-sound = accepted-sound (recordsOf t) (omega (arith, few)) ticket-passes
 
 -- the levels of an accepted ticket fit all its cells, and no others do
 pub ticket-levels : (words : ℕ) (t : List ℕ) → checkVerdict words t ≡ Pass → (given : List Trit) → LevelsFit (decoded t .cells) given (levels (decoded t .cells) given)

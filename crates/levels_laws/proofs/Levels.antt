@@ -18,10 +18,11 @@ use Rattle.cell.proofs.Lists.{tabulate-at}
 use Rattle.netlist.specs.Shape.{visit}
 use Rattle.netlist.specs.Netlist.{cellIn}
 use Rattle.levels.specs.Evaluate.{netLevel, drivenLevel, controlLevel, cellLevel, roundOf, levelsIn, levels}
-use Rattle.levels_laws.specs.Algebra.{All, netValue, drivenValue, controlValue, cellValue, Fits, Ranked}
+use Rattle.order_laws.specs.Members.{All}
+use Rattle.levels_laws.specs.Algebra.{netValue, drivenValue, controlValue, cellValue, Fits, Ranked}
 use Rattle.levels_laws.specs.Instances.{kleene, size, sizesIn, LevelsFit}
 use Rattle.levels_laws.proofs.Valuations.{unique, rounds-fit}
-use Rattle.levels_laws.proofs.Edges.{rankIn, rank-low, rankIn-ranked}
+use Rattle.levels_laws.proofs.Ranks.{rankIn, rank-low, rankIn-ranked}
 
 -- levels by the tables are values in the algebra of levels
 driven-level : (ls : List Trit) (d : Driver) → drivenLevel ls d ≡ drivenValue kleene (λ s. getD ls s Undef) d

@@ -1,4 +1,4 @@
 pub mod Operands
 pub mod Valuations
-pub mod Edges
+pub mod Ranks
 pub mod Levels

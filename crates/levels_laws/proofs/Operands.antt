@@ -1,7 +1,6 @@
 -- Operands of a cell: a cell's value follows from those of its operands. Assumes nothing.
 use mathlib.Core.Path.{_≡_, refl, sym, ap, ap₂, _∙_}
-use mathlib.Core.Bool.{false, true≢false}
-use mathlib.Core.List.{List, [], _∷_, map}
+use mathlib.Core.Bool.{false, true≢false, true, false≢true}
 use Prim.Native.Nat.{ℕ}
 use Rattle.logic.specs.declared.Trit.{Trit}
 use Rattle.value.specs.declared.Net.{Net}
@@ -14,44 +13,8 @@ use Rattle.value.specs.Value.{driver, net}
 use Rattle.cell.specs.declared.Cell.{Cell}
 use Rattle.cell.specs.declared.Cell.the-variants.{Input, Output, Buf, Not, And, Or, Xor, Mux, Aig}
 use Rattle.netlist.specs.Shape.{visit, visitControl, visitMut, isInput}
-use Rattle.levels_laws.specs.Algebra.{Algebra, All, drivenValue, netValue, controlValue, cellValue}
-
--- properties of each element
-pub all-imp : {A : Type 0} (P Q : A → Type 0) → ((x : A) → P x → Q x) → (xs : List A) → All P xs → All Q xs
-unfolding All
-all-imp P Q f [] h = tt
-all-imp P Q f (x ∷ xs) h = (f x (h .0), all-imp P Q f xs (h .1))
-
-pub all-every : {A : Type 0} (P : A → Type 0) → ((x : A) → P x) → (xs : List A) → All P xs
-unfolding All
-all-every P f [] = tt
-all-every P f (x ∷ xs) = (f x, all-every P f xs)
-
-pub all-both : {A : Type 0} (P Q : A → Type 0) (xs : List A) → All P xs → All Q xs → All (λ x. P x × Q x) xs
-unfolding All
-all-both P Q [] g h = tt
-all-both P Q (x ∷ xs) g h = ((g .0, h .0), all-both P Q xs (g .1) (h .1))
-
-pub all-map : {A B : Type 0} (f : A → B) (P : B → Type 0) (xs : List A) → All (λ x. P (f x)) xs → All P (map f xs)
-unfolding All
-all-map f P [] h = tt
-all-map f P (x ∷ xs) h = (h .0, all-map f P xs (h .1))
-
-net-visit : (f : Net → Net) (p : ControlNet) → net (visitControl f p) ≡ f (net p)
-net-visit f (Pos n) = refl
-net-visit f (Neg n) = refl
-
-pub visit-visitMut : (f : Net → Net) (c : Cell) → visit (visitMut f c) ≡ map f (visit c)
-unfolding visit visitMut
-visit-visitMut f (Input l) = refl
-visit-visitMut f (Output a l) = refl
-visit-visitMut f (Buf a) = refl
-visit-visitMut f (Not a) = refl
-visit-visitMut f (And a b) = refl
-visit-visitMut f (Or a b) = refl
-visit-visitMut f (Xor a b) = refl
-visit-visitMut f (Mux a b c) = refl
-visit-visitMut f (Aig p q) = ap₂ (λ (x y : Net). x ∷ y ∷ []) (net-visit f p) (net-visit f q)
+use Rattle.order_laws.specs.Members.{All, Drives}
+use Rattle.levels_laws.specs.Algebra.{Algebra, drivenValue, netValue, controlValue, cellValue}
 
 module _ {A : Type 0} (alg : Algebra A) where
   pub value-const : (v : ℕ → A) (n : Net) (t : Trit) → driver n ≡ driven.Const t → netValue alg v n ≡ alg .const t
@@ -63,7 +26,7 @@ module _ {A : Type 0} (alg : Algebra A) where
   value-slot v n x e = ap (drivenValue alg v) e
 
   -- two valuations agree on a net if they agree on the slot that drives it
-  pub value-same : (u v : ℕ → A) (n : Net) → ((x : Slot) → driver n ≡ driven.Cell x → u (x .0) ≡ v (x .0)) → netValue alg u n ≡ netValue alg v n
+  pub value-same : (u v : ℕ → A) (n : Net) → Drives (λ x. u x ≡ v x) n → netValue alg u n ≡ netValue alg v n
   value-same u v n h = go (driver n) refl
     where
       go : (d : Driver) → driver n ≡ d → netValue alg u n ≡ netValue alg v n
@@ -103,7 +66,19 @@ module _ {A : Type 0} (alg : Algebra A) where
   cell-visitMut v f own (Mux a b c) = refl
   cell-visitMut v f own (Aig p q) = ap₂ (alg .and) (control-visit v f p) (control-visit v f q)
 
-  -- an input alone has a value of its own
+  -- an input has its own value, and no other cell has one
+  pub input-own : (v : Net → A) (own : A) (c : Cell) → isInput c ≡ true → cellValue alg v own c ≡ own
+  unfolding cellValue
+  input-own v own (Input l) e = refl
+  input-own v own (Output a l) e = absurd (false≢true e)
+  input-own v own (Buf a) e = absurd (false≢true e)
+  input-own v own (Not a) e = absurd (false≢true e)
+  input-own v own (And a b) e = absurd (false≢true e)
+  input-own v own (Or a b) e = absurd (false≢true e)
+  input-own v own (Xor a b) e = absurd (false≢true e)
+  input-own v own (Mux a b c) e = absurd (false≢true e)
+  input-own v own (Aig p q) e = absurd (false≢true e)
+
   pub cell-own : (v : Net → A) (x y : A) (c : Cell) → isInput c ≡ false → cellValue alg v x c ≡ cellValue alg v y c
   unfolding cellValue
   cell-own v x y (Input l) e = absurd (true≢false e)

@@ -7,8 +7,9 @@ use lib.ListN.{length}
 use Rattle.cell.specs.declared.Cell.{Cell}
 use Rattle.netlist.specs.Shape.{visit}
 use Rattle.netlist.specs.Netlist.{cellIn}
+use Rattle.order_laws.proofs.Members.{all-imp}
 use Rattle.levels_laws.specs.Algebra.{Algebra, netValue, cellValue, Fits, Before, Ranked}
-use Rattle.levels_laws.proofs.Operands.{all-imp, value-same, cell-same}
+use Rattle.levels_laws.proofs.Operands.{value-same, cell-same}
 
 module _ {A : Type 0} (alg : Algebra A) (cs : List Cell) (rank : ℕ → ℕ) (ranked : Ranked cs rank) where
   -- two valuations give a cell one value if they agree on the slots of lower rank

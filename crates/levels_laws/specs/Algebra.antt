@@ -1,11 +1,10 @@
 -- Valuations of a netlist in any algebra of the cell kinds. Assumes nothing: these are definitions.
 use mathlib.Core.Path.{_≡_}
-use mathlib.Core.List.{List, [], _∷_}
+use mathlib.Core.List.{List}
 use Prim.Native.Nat.{ℕ, _<_}
 use lib.ListN.{length}
 use Rattle.logic.specs.declared.Trit.{Trit}
 use Rattle.value.specs.declared.Net.{Net}
-use Rattle.value.specs.declared.Slot.{Slot}
 use Rattle.value.specs.declared.ControlNet.{ControlNet}
 use Rattle.value.specs.declared.ControlNet.the-variants.{Pos, Neg}
 use Rattle.value.specs.declared.Driver.{Driver}
@@ -15,6 +14,7 @@ use Rattle.cell.specs.declared.Cell.{Cell}
 use Rattle.cell.specs.declared.Cell.the-variants.{Input, Output, Buf, Not, And, Or, Xor, Mux, Aig}
 use Rattle.netlist.specs.Shape.{visit}
 use Rattle.netlist.specs.Netlist.{cellIn}
+use Rattle.order_laws.specs.Members.{All, Drives}
 
 -- what a constant is worth, and how each kind of cell computes its value from those of its operands. And, or and xor are commutative. An
 -- and-inverter is an and of operands, inverted where they are negative
@@ -30,11 +30,6 @@ pub record Algebra (A : Type 0) : Type 0 where
   pub and-comm : (x y : A) → and x y ≡ and y x
   pub or-comm : (x y : A) → or x y ≡ or y x
   pub xor-comm : (x y : A) → xor x y ≡ xor y x
-
--- a property of each element of a list
-unfoldable pub All : {A : Type 0} → (A → Type 0) → List A → Type 0
-All P [] = Unit {0}
-All P (x ∷ xs) = P x × All P xs
 
 module _ {A : Type 0} (alg : Algebra A) where
   -- the value of a net, given those of the slots
@@ -67,7 +62,7 @@ module _ {A : Type 0} (alg : Algebra A) where
 
 -- a net that slot s reads is constant or is the net of a slot of lower rank
 abbrev pub Before : List Cell → (ℕ → ℕ) → ℕ → Net → Type 0
-Before cs rank s n = (x : Slot) → driver n ≡ driven.Cell x → (x .0 < length cs) × (rank (x .0) < rank s)
+Before cs rank s = Drives (λ x. (x < length cs) × (rank x < rank s))
 
 -- a rank that falls from each slot to those that it reads
 unfoldable pub Ranked : List Cell → (ℕ → ℕ) → Type 0

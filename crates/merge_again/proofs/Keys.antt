@@ -1,18 +1,14 @@
 -- Cells to which no rule applies and that have one key are alike. Assumes nothing.
 use mathlib.Core.Path.{_≡_, refl, sym, ap, _∙_}
 use mathlib.Core.Bool.{Bool, true, false, cond, true≢false}
-use mathlib.Core.List.{List, [], _∷_}
 use mathlib.Core.Logic.{_⊎_, inl, inr}
 use Rattle.value.specs.declared.Net.{Net}
 use Rattle.value.specs.Value.{leNet, leControl}
 use Rattle.cell.specs.declared.Cell.{Cell}
 use Rattle.cell.specs.declared.Cell.the-variants.{Input, Output, Buf, Not, And, Or, Xor, Mux, Aig}
 use Rattle.design.specs.declared.Source.{Source}
-use Rattle.design.specs.declared.Found.the-variants.{Nothing, At}
-use Rattle.design.specs.Queue.{Entry, eqCell, seek}
-use Rattle.aig.specs.Aig.{simpleAigOpt}
 use Rattle.merge.specs.Merge.{keyOf}
-use Rattle.levels_laws.specs.Algebra.{All}
+use Rattle.aig.specs.Aig.{simpleAigOpt}
 use Rattle.normal.specs.Paired.{exchange, Alike}
 use Rattle.normal.proofs.Normal.{fires}
 use Rattle.normal.proofs.Alike.{exchange-twice}
@@ -43,8 +39,3 @@ module _ (look : Net → Source) where
       go (inl f) (inr g) = inr (ap exchange (sym f ∙ k ∙ g) ∙ exchange-twice e)
       go (inr f) (inl g) = inr (sym f ∙ k ∙ g)
       go (inr f) (inr g) = inl (sym (exchange-twice c) ∙ ap exchange (sym f ∙ k ∙ g) ∙ exchange-twice e)
-
-pub seek-none : (es : List Entry) (c : Cell) → All (λ e. eqCell (e .0) c ≡ false) es → seek es c ≡ Nothing
-unfolding All seek
-seek-none [] c h = refl
-seek-none (e ∷ es) c h = ap (λ (b : Bool). cond b (At (e .1)) (seek es c)) (h .0) ∙ seek-none es c (h .1)

@@ -1,7 +1,6 @@
-pub mod Members
-pub mod Least
 pub mod Reached
 pub mod Whole
 pub mod Order
 pub mod Keys
+pub mod Single
 pub mod Merged

@@ -1,36 +1,27 @@
 -- What compacting leaves is all reached: compacting again would keep every slot. Assumes nothing.
 use mathlib.Core.Path.{_≡_, refl, sym, ap, _∙_, subst}
-use mathlib.Core.Bool.{Bool, true, false, cond}
-use mathlib.Core.List.{List, [], _∷_}
+use mathlib.Core.Bool.{Bool, true, false}
+use mathlib.Core.List.{List}
 use Prim.Native.Nat.{ℕ, zero, suc, _+_, _-_, _≤_, _<_}
 use native.Mathlib.Omega.{arith}
 use native.Mathlib.Decide.{decLt}
-use lib.Dec.{eqb}
 use lib.ListN.{length, getD, drop, List·getD-eq-default}
 use lib.Seq.{getD-drop}
-use borrow.Author.Tests.{eqb-true, eq-eqb}
 use Rattle.value.specs.declared.Net.{Net}
-use Rattle.value.specs.declared.Slot.{Slot}
-use Rattle.value.specs.declared.Driver.the-variants as driven
-use Rattle.value.specs.Value.{slotAt, driver}
+use Rattle.value.specs.Value.{slotAt}
 use Rattle.cell.specs.declared.Cell.{Cell}
 use Rattle.netlist.specs.Shape.{visit, visitMut, hasEffects}
-use Rattle.netlist.specs.Netlist.{Netlist, cellIn, slots, those, run, startOf, outputOf, iterCells, cellDeps}
-use Rattle.design.specs.Compact.{keep, isKept, keptSlots, countKept, renumbered, netMap, compact}
-use Rattle.levels_laws.specs.Algebra.{All, Before, Ranked}
-use Rattle.levels_laws.proofs.Operands.{all-imp, all-both, visit-visitMut}
-use Rattle.kept.proofs.Lists.{getD-mapped, those-pass, all-those, all-tabulate}
-use Rattle.kept.proofs.Chosen.{chosen, count, count-yes, count-le, PlaceOf, place-of, SlotAt, slot-at}
-use Rattle.kept.proofs.Records.{input-mapped, output-mapped}
+use Rattle.netlist.specs.Netlist.{Netlist, cellIn, run, startOf, outputOf}
+use Rattle.design.specs.Compact.{keep, isKept, netMap, compact}
+use Rattle.order_laws.specs.Members.{All, Drives}
+use Rattle.order_laws.proofs.Members.{all-imp, all-both, all-tabulate}
+use Rattle.order_laws.proofs.Operands.{all-visited}
+use Rattle.order_laws.proofs.Sorts.{effects-mapped}
+use Rattle.levels_laws.specs.Algebra.{Before, Ranked}
+use Rattle.kept.proofs.Chosen.{count, count-yes, PlaceOf, place-of, SlotAt, slot-at}
 use Rattle.kept.proofs.Sound.{Sound, run-above, Inner, inner, Bit, output-bits, start-inside, start-zero}
-use Rattle.kept.proofs.Keep.{KeptNet, effects-kept, reads-kept}
-use Rattle.kept.proofs.Compact.{driver-in, old, cell-at, compact-length, compact-sound}
-use Rattle.merge_again.proofs.Members.{all-unmap, Drives, all-deps}
-use Rattle.merge_again.proofs.Least.{least}
-
-pub effects-mapped : (f : Net → Net) (c : Cell) → hasEffects (visitMut f c) ≡ hasEffects c
-unfolding hasEffects
-effects-mapped f c = rw (input-mapped f c, output-mapped f c)
+use Rattle.kept.proofs.Keep.{KeptNet, effects-kept, reads-kept, marked-has}
+use Rattle.kept.proofs.Compact.{old, cell-at, compact-length, compact-sound, bit-at, mapped-slot}
 
 -- the bits of the cell that starts at a slot are numbered from there, and each has its start there
 module _ (d : Netlist) (rank : ℕ → ℕ) (sound : Sound d rank) (s : ℕ) (first : getD (d .bits) s 0 ≡ 0) where
@@ -88,9 +79,7 @@ module _ (d : Netlist) (rank : ℕ → ℕ) (sound : Sound d rank) where
         ∙ ap (λ (i : ℕ). visitMut (netMap (d .bits) (keep d)) (cellIn (d .cells) i)) (at-place .at)
 
     bit-placed : getD (compact d .bits) (place x) 0 ≡ getD (d .bits) x 0
-    unfolding compact keptSlots chosen
-    bit-placed =
-        getD-mapped (λ s. getD (d .bits) s 0) (chosen kept total) (place x) 0 0 (at-place .below) ∙ ap (λ (i : ℕ). getD (d .bits) i 0) (at-place .at)
+    bit-placed = bit-at d rank sound (place x) (at-place .below) ∙ ap (λ (i : ℕ). getD (d .bits) i 0) (at-place .at)
 
   -- the bits of a kept cell stay together
   place-back : (b x : ℕ) → x < total → getD (d .bits) x 0 ≡ b → kept x ≡ true → place x ≡ place (x - b) + b
@@ -138,29 +127,6 @@ module _ (d : Netlist) (rank : ℕ → ℕ) (sound : Sound d rank) where
       (start-again s l k (effects-kept (compact d) rank′ sound′ (place s) (place-inside s l k)
       (ap hasEffects (cell-placed s l k) ∙ effects-mapped (netMap (d .bits) (keep d)) (cellIn (d .cells) s) ∙ e)))
 
-  roots-again : All Again (those (λ s. hasEffects (cellIn (d .cells) s)) (iterCells (d .bits)))
-  unfolding iterCells
-  roots-again =
-      let bits : List ℕ = d .bits in
-      let starts : List ℕ = those (λ s. eqb (getD bits s 0) 0) (slots (length bits)) in
-      let effects : ℕ → Bool = λ s. hasEffects (cellIn (d .cells) s) in
-      let Start : ℕ → Type 0 = λ s. (s < length bits) × (eqb (getD bits s 0) 0 ≡ true) in
-      let w : length bits ≡ total = sound .wide in
-      all-imp (λ s. Start s × (effects s ≡ true)) Again (λ s h. root-again s (let l : s < length bits = h .0 .0 in omega arith) (eqb-true (getD bits s 0) 0 (h .0 .1)) (h .1)) (those effects starts)
-      (all-both Start (λ s. effects s ≡ true) (those effects starts)
-      (all-those effects Start starts
-      (all-both (λ s. s < length bits) (λ s. eqb (getD bits s 0) 0 ≡ true) starts
-      (all-those (λ s. eqb (getD bits s 0) 0) (λ s. s < length bits) (slots (length bits)) (all-tabulate (λ s. s < length bits) (λ s. s) (length bits) (λ s l. l)))
-      (those-pass (λ s. eqb (getD bits s 0) 0) (slots (length bits)))))
-      (those-pass effects starts))
-
-  -- the new net of an operand
-  mapped-slot : (m : Net) (x : Slot) → driver m ≡ driven.Cell x → x .0 < total → driver (netMap (d .bits) (keep d) m) ≡ driven.Cell (slotAt (place (x .0)))
-  unfolding netMap countKept keptSlots chosen
-  mapped-slot m x e l =
-      ap (λ y. driver (renumbered (d .bits) (keep d) m y)) e
-      ∙ driver-in (place (x .0)) (let f : total ≤ 65536 = sound .few in let c : place (x .0) ≤ x .0 = count-le kept (x .0) in omega arith)
-
   -- what a slot reads that is kept, and kept again
   reads-again : (i : ℕ) → i < total → kept i ≡ true → again (place i) ≡ true → All (Drives (λ x. Again (startOf (d .bits) x))) (visit (cellIn (d .cells) i))
   unfolding Ranked
@@ -170,28 +136,26 @@ module _ (d : Netlist) (rank : ℕ → ℕ) (sound : Sound d rank) where
       let New : Net → Type 0 = λ m. KeptNet (compact d) rank′ sound′ (f m) in
       let Old : Net → Type 0 = λ m. Before (d .cells) rank i m × KeptNet d rank sound m in
       all-imp (λ m. Old m × New m) (Drives (λ x. Again (startOf (d .bits) x)))
-      (λ m h x e. start-again (x .0) (h .0 .0 x e .0) (h .0 .1 x e) (h .1 (slotAt (place (x .0))) (mapped-slot m x e (h .0 .0 x e .0)))) ms
+      (λ m h x e. start-again (x .0) (h .0 .0 x e .0) (h .0 .1 x e) (h .1 (slotAt (place (x .0))) (mapped-slot d rank sound m x e (h .0 .0 x e .0)))) ms
       (all-both Old New ms
       (all-both (Before (d .cells) rank i) (KeptNet d rank sound) ms (sound .ranked i l) (reads-kept d rank sound i l k))
-      (all-unmap f (KeptNet (compact d) rank′ sound′) ms
-      (subst (All (KeptNet (compact d) rank′ sound′)) (ap visit (cell-placed i l k) ∙ visit-visitMut f (cellIn (d .cells) i))
+      (all-visited (KeptNet (compact d) rank′ sound′) f (cellIn (d .cells) i)
+      (subst (λ (c : Cell). All (KeptNet (compact d) rank′ sound′) (visit c)) (cell-placed i l k)
       (reads-kept (compact d) rank′ sound′ (place i) (place-inside i l k) a))))
 
-  deps-again : (s : ℕ) → Again s → All Again (cellDeps d s)
+  deps-again : (s : ℕ) → Again s → All (λ i. All (Drives (λ x. Again (startOf (d .bits) x))) (visit (cellIn (d .cells) i))) (outputOf (d .bits) s)
   deps-again s h =
       let Here : ℕ → Type 0 = λ i. Bit d rank sound s i × (startOf (d .bits) i ≡ s) in
-      all-deps Again d s
-      (all-imp Here (λ i. All (Drives (λ x. Again (startOf (d .bits) x))) (visit (cellIn (d .cells) i)))
+      all-imp Here (λ i. All (Drives (λ x. Again (startOf (d .bits) x))) (visit (cellIn (d .cells) i)))
       (λ i b.
       let k : kept i ≡ true = ap (λ (j : ℕ). getD (keep d) j false) (b .1) ∙ h .once in
       reads-again i (b .0 .inside) k
       (again-placed i (b .0 .inside) k ∙ ap (λ (j : ℕ). getD (keep (compact d)) (place j) false) (b .1) ∙ h .twice))
       (outputOf (d .bits) s)
-      (all-both (Bit d rank sound s) (λ i. startOf (d .bits) i ≡ s) (outputOf (d .bits) s) (output-bits d rank sound s (h .inside)) (bits-start d rank sound s (h .first))))
+      (all-both (Bit d rank sound s) (λ i. startOf (d .bits) i ≡ s) (outputOf (d .bits) s) (output-bits d rank sound s (h .inside)) (bits-start d rank sound s (h .first)))
 
   marked-again : (s : ℕ) → getD (keep d) s false ≡ true → Again s
-  unfolding keep
-  marked-again = least (cellDeps d) Again deps-again total (those (λ s. hasEffects (cellIn (d .cells) s)) (iterCells (d .bits))) roots-again
+  marked-again = marked-has d Again (λ s l z e. root-again s (omega (arith, l, sound .wide)) z e) deps-again
 
   pub compact-reached : (j : ℕ) → j < length (compact d .cells) → isKept (compact d .bits) (keep (compact d)) j ≡ true
   compact-reached j l =

@@ -15,31 +15,22 @@ use Rattle.cell.specs.declared.Cell.the-variants.{Input}
 use Rattle.cell.proofs.Lists.{tabulate-length}
 use Rattle.netlist.specs.Shape.{visit, visitMut}
 use Rattle.netlist.specs.Netlist.{Netlist, cellIn, slots, anyOf}
-use Rattle.design.specs.Queue.{netIn, eqCell}
+use Rattle.design.specs.Queue.{netIn}
 use Rattle.design.specs.Compact.{keep, isKept, keptSlots, countKept, renumbered, netMap, compact}
-use Rattle.design.proofs.Replacing.{changed-is}
-use Rattle.levels_laws.specs.Algebra.{All, Before, Ranked}
-use Rattle.levels_laws.proofs.Operands.{all-imp}
-use Rattle.kept.proofs.Lists.{map-same, map-slots, all-tabulate}
+use Rattle.order_laws.specs.Members.{All}
+use Rattle.order_laws.proofs.Members.{all-imp, all-tabulate, any-none, those-every}
+use Rattle.order_laws.proofs.Lists.{map-same, map-slots}
+use Rattle.levels_laws.specs.Algebra.{Before, Ranked}
 use Rattle.kept.proofs.Sound.{Sound}
 use Rattle.kept.proofs.Compact.{compact-sound}
-use Rattle.kept.proofs.Merge.{cell-equal}
-use Rattle.merge_again.proofs.Members.{any-none, those-every}
+use Rattle.normal.proofs.Alike.{visit-stays}
 use Rattle.merge_again.proofs.Reached.{compact-reached}
 
--- a function that leaves each operand leaves the cell
-module _ (f : Net → Net) (c : Cell) (fixed : All (λ n. f n ≡ n) (visit c)) where
-  pub none-changed : anyOf (λ n. not (eqNet (f n) n)) (visit c) ≡ false
-  none-changed =
-      any-none (λ n. not (eqNet (f n) n)) (visit c)
-      (all-imp (λ n. f n ≡ n) (λ n. not (eqNet (f n) n) ≡ false) (λ n e. ap not (net-test .is-true (f n) n e)) (visit c) fixed)
-
-  pub cell-fixed : visitMut f c ≡ c
-  cell-fixed = cell-equal (visitMut f c) c (go (eqCell (visitMut f c) c) (sym (changed-is f c) ∙ none-changed))
-    where
-      go : (b : Bool) → not b ≡ false → b ≡ true
-      go true e = refl
-      go false e = sym e
+-- a function that leaves each operand changes none
+pub none-changed : (f : Net → Net) (c : Cell) → All (λ n. f n ≡ n) (visit c) → anyOf (λ n. not (eqNet (f n) n)) (visit c) ≡ false
+none-changed f c fixed =
+    any-none (λ n. not (eqNet (f n) n)) (visit c)
+    (all-imp (λ n. f n ≡ n) (λ n. not (eqNet (f n) n) ≡ false) (λ n e. ap not (net-test .is-true (f n) n e)) (visit c) fixed)
 
 module _ (d : Netlist) (rank : ℕ → ℕ) (sound : Sound d rank) (whole : (s : ℕ) → s < length (d .cells) → isKept (d .bits) (keep d) s ≡ true) where
   abbrev total : ℕ
@@ -68,7 +59,7 @@ module _ (d : Netlist) (rank : ℕ → ℕ) (sound : Sound d rank) (whole : (s :
   cell-same s l =
       let f : Net → Net = netMap (d .bits) (keep d) in
       let c : Cell = cellIn (d .cells) s in
-      cell-fixed f c (all-imp (Before (d .cells) rank s) (λ n. f n ≡ n) (net-same s) (visit c) (sound .ranked s l))
+      visit-stays f c (all-imp (Before (d .cells) rank s) (λ n. f n ≡ n) (net-same s) (visit c) (sound .ranked s l))
 
   pub compact-whole : compact d ≡ d
   unfolding compact

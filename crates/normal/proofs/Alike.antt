@@ -1,31 +1,31 @@
 -- Laws of cells that are alike, of renamed operands and of renumbered nets. Assumes nothing.
 use mathlib.Core.Path.{_≡_, refl, sym, ap, ap₂, _∙_, subst}
-use mathlib.Core.Bool.{false, _&&_, _||_}
+use mathlib.Core.Bool.{false, Bool}
 use mathlib.Core.Logic.{inl, inr}
 use Prim.Native.Nat.{ℕ, _≤_}
-use lib.Dec.{eqb, leb}
+use native.Mathlib.Omega.{arith}
+use lib.Dec.{eqb}
+use Rattle.logic.specs.declared.Trit.{Trit}
+use Rattle.logic.specs.declared.Trit.the-variants.{Zero, One, Undef}
 use Rattle.value.specs.declared.Net.{Net}
 use Rattle.value.specs.declared.Slot.{Slot}
 use Rattle.value.specs.declared.ControlNet.{ControlNet}
 use Rattle.value.specs.declared.ControlNet.the-variants.{Pos, Neg}
 use Rattle.value.specs.declared.Driver.{Driver}
 use Rattle.value.specs.declared.Driver.the-variants as driven
-use Rattle.logic.specs.declared.Trit.{Trit}
-use Rattle.logic.specs.declared.Trit.the-variants.{Zero, One, Undef}
-use Rattle.value.specs.Value.{net, driver, constant, isConst, fromTrit}
-use Rattle.value.proofs.Laws.{driver-const, cell-driver}
+use Rattle.value.specs.Value.{net, driver, constant, isConst, fromTrit, slotAt}
+use Rattle.value.proofs.Laws.{driver-const, cell-driver, driver-cell}
 use Rattle.cell.specs.declared.Cell.{Cell}
 use Rattle.cell.specs.declared.Cell.the-variants.{Input, Output, Buf, Not, And, Or, Xor, Mux, Aig}
 use Rattle.cell.specs.Records.{cellRecord}
-use Rattle.netlist.specs.Shape.{visit, visitControl, visitMut, isInput, isOutput, isSplittable, hasEffects}
+use Rattle.netlist.specs.Shape.{visit, visitControl, visitMut}
 use Rattle.design.specs.Queue.{netIn}
-use Rattle.levels_laws.specs.Algebra.{All}
-use Rattle.levels_laws.proofs.Operands.{all-map, visit-visitMut}
-use Rattle.kept.proofs.Records.{input-kind, output-kind, kind-kept}
-use Rattle.kept.proofs.Compact.{driver-in}
+use Rattle.order_laws.specs.Members.{All, Drives}
+use Rattle.order_laws.proofs.Sorts.{kind-kept, ByKind, kindIn, same-sort}
+use Rattle.order_laws.proofs.Operands.{all-visited, visited-all}
 use Rattle.normal.specs.Paired.{exchange, Alike, drivenAs, renumber}
 use Rattle.normal.proofs.Normal.{isBuf}
-use Rattle.normal.proofs.Rules.{isRuled, Fixes}
+use Rattle.normal.proofs.Rules.{Fixes}
 
 -- Renamed operands
 control-visit : (f g : Net → Net) (p : ControlNet) → visitControl f (visitControl g p) ≡ visitControl (λ n. f (g n)) p
@@ -86,29 +86,24 @@ pub visit-back : (f g : Net → Net) (c : Cell) → All (λ n. f (g n) ≡ n) (v
 visit-back f g c h = visit-visit f g c ∙ visit-stays (λ n. f (g n)) c h
 
 -- Exchanged operands
+-- twice is not at all; it goes past a renaming; and it leaves the kind
+exchanges : (f : Net → Net) (c : Cell) → (exchange (exchange c) ≡ c) × (exchange (visitMut f c) ≡ visitMut f (exchange c)) × (kindIn (exchange c) ≡ kindIn c)
+unfolding exchange visitMut cellRecord
+exchanges f (Input l) = (refl, refl, refl)
+exchanges f (Output a l) = (refl, refl, refl)
+exchanges f (Buf a) = (refl, refl, refl)
+exchanges f (Not a) = (refl, refl, refl)
+exchanges f (And a b) = (refl, refl, refl)
+exchanges f (Or a b) = (refl, refl, refl)
+exchanges f (Xor a b) = (refl, refl, refl)
+exchanges f (Mux a b c) = (refl, refl, refl)
+exchanges f (Aig p q) = (refl, refl, refl)
+
 pub exchange-twice : (c : Cell) → exchange (exchange c) ≡ c
-unfolding exchange
-exchange-twice (Input l) = refl
-exchange-twice (Output a l) = refl
-exchange-twice (Buf a) = refl
-exchange-twice (Not a) = refl
-exchange-twice (And a b) = refl
-exchange-twice (Or a b) = refl
-exchange-twice (Xor a b) = refl
-exchange-twice (Mux a b c) = refl
-exchange-twice (Aig p q) = refl
+exchange-twice c = exchanges (λ n. n) c .0
 
 pub exchange-visit : (f : Net → Net) (c : Cell) → exchange (visitMut f c) ≡ visitMut f (exchange c)
-unfolding exchange visitMut
-exchange-visit f (Input l) = refl
-exchange-visit f (Output a l) = refl
-exchange-visit f (Buf a) = refl
-exchange-visit f (Not a) = refl
-exchange-visit f (And a b) = refl
-exchange-visit f (Or a b) = refl
-exchange-visit f (Xor a b) = refl
-exchange-visit f (Mux a b c) = refl
-exchange-visit f (Aig p q) = refl
+exchange-visit f c = exchanges f c .1
 
 exchange-reads : (P : Net → Type 0) (c : Cell) → All P (visit c) → All P (visit (exchange c))
 unfolding exchange visit All
@@ -122,26 +117,7 @@ exchange-reads P (Xor a b) h = (h .1 .0, (h .0, tt))
 exchange-reads P (Mux a b c) h = h
 exchange-reads P (Aig p q) h = (h .1 .0, (h .0, tt))
 
--- the kind by its number
-abbrev pub kindIn : Cell → ℕ
-kindIn c = cellRecord 0 c .kind
-
-exchange-kind : (c : Cell) → kindIn (exchange c) ≡ kindIn c
-unfolding exchange cellRecord
-exchange-kind (Input l) = refl
-exchange-kind (Output a l) = refl
-exchange-kind (Buf a) = refl
-exchange-kind (Not a) = refl
-exchange-kind (And a b) = refl
-exchange-kind (Or a b) = refl
-exchange-kind (Xor a b) = refl
-exchange-kind (Mux a b c) = refl
-exchange-kind (Aig p q) = refl
-
 -- Cells that are alike
-pub alike-self : (c : Cell) → Alike c c
-alike-self c = inl refl
-
 pub alike-sym : (c d : Cell) → Alike c d → Alike d c
 alike-sym c d (inl e) = inl (sym e)
 alike-sym c d (inr e) = inr (ap exchange (sym e) ∙ exchange-twice c)
@@ -151,9 +127,6 @@ alike-trans c d e (inl p) (inl q) = inl (p ∙ q)
 alike-trans c d e (inl p) (inr q) = inr (ap exchange p ∙ q)
 alike-trans c d e (inr p) (inl q) = inr (p ∙ q)
 alike-trans c d e (inr p) (inr q) = inl (sym (exchange-twice c) ∙ ap exchange p ∙ q)
-
-pub alike-exchange : (c : Cell) → Alike c (exchange c)
-alike-exchange c = inr refl
 
 pub alike-visit : (f : Net → Net) (c d : Cell) → Alike c d → Alike (visitMut f c) (visitMut f d)
 alike-visit f c d (inl e) = inl (ap (visitMut f) e)
@@ -165,14 +138,17 @@ alike-reads P c d (inr e) h = subst (λ x. All P (visit x)) e (exchange-reads P 
 
 pub alike-kind : (c d : Cell) → Alike c d → kindIn c ≡ kindIn d
 alike-kind c d (inl e) = ap kindIn e
-alike-kind c d (inr e) = sym (exchange-kind c) ∙ ap kindIn e
+alike-kind c d (inr e) = sym (exchanges (λ n. n) c .2) ∙ ap kindIn e
 
 -- A cell and its image by a renaming, up to exchange
 pub image-kind : (g : Net → Net) (c d : Cell) → Alike (visitMut g c) d → kindIn c ≡ kindIn d
 image-kind g c d a = sym (kind-kept g 0 c) ∙ alike-kind (visitMut g c) d a
 
 pub image-reads : (P : Net → Type 0) (g : Net → Net) (c d : Cell) → Alike (visitMut g c) d → All (λ n. P (g n)) (visit c) → All P (visit d)
-image-reads P g c d a h = alike-reads P (visitMut g c) d a (subst (All P) (sym (visit-visitMut g c)) (all-map g P (visit c) h))
+image-reads P g c d a h = alike-reads P (visitMut g c) d a (visited-all P g c h)
+
+pub image-operands : (P : Net → Type 0) (g : Net → Net) (c d : Cell) → Alike (visitMut g c) d → All P (visit d) → All (λ n. P (g n)) (visit c)
+image-operands P g c d a h = all-visited P g c (alike-reads P d (visitMut g c) (alike-sym (visitMut g c) d a) h)
 
 -- alike cells have alike images
 pub image-alike : (g : Net → Net) (c c′ d d′ : Cell) → Alike (visitMut g c) d → Alike (visitMut g c′) d′ → Alike c c′ → Alike d d′
@@ -184,62 +160,24 @@ image-image f g c d e a b =
     subst (λ x. Alike x e) (visit-visit f g c)
     (alike-trans (visitMut f (visitMut g c)) (visitMut f d) e (alike-visit f (visitMut g c) d a) b)
 
--- What the kind decides
-buf-kind : (c : Cell) → isBuf c ≡ eqb (kindIn c) 3
+-- so what the kind decides is the same
+pub image-sort : {sort : Cell → Bool} → ByKind sort → (g : Net → Net) (c d : Cell) → Alike (visitMut g c) d → sort c ≡ sort d
+image-sort by g c d a = same-sort by 0 0 c d (image-kind g c d a)
+
+pub buf-kind : (bit : ℕ) (c : Cell) → isBuf c ≡ eqb (cellRecord bit c .kind) 3
 unfolding cellRecord
-buf-kind (Input l) = refl
-buf-kind (Output a l) = refl
-buf-kind (Buf a) = refl
-buf-kind (Not a) = refl
-buf-kind (And a b) = refl
-buf-kind (Or a b) = refl
-buf-kind (Xor a b) = refl
-buf-kind (Mux a b c) = refl
-buf-kind (Aig p q) = refl
+buf-kind bit (Input l) = refl
+buf-kind bit (Output a l) = refl
+buf-kind bit (Buf a) = refl
+buf-kind bit (Not a) = refl
+buf-kind bit (And a b) = refl
+buf-kind bit (Or a b) = refl
+buf-kind bit (Xor a b) = refl
+buf-kind bit (Mux a b c) = refl
+buf-kind bit (Aig p q) = refl
 
-ruled-kind : (c : Cell) → isRuled c ≡ (eqb (kindIn c) 4 || (eqb (kindIn c) 7 || eqb (kindIn c) 9))
-unfolding cellRecord
-ruled-kind (Input l) = refl
-ruled-kind (Output a l) = refl
-ruled-kind (Buf a) = refl
-ruled-kind (Not a) = refl
-ruled-kind (And a b) = refl
-ruled-kind (Or a b) = refl
-ruled-kind (Xor a b) = refl
-ruled-kind (Mux a b c) = refl
-ruled-kind (Aig p q) = refl
-
-pub splittable-kind : (c : Cell) → isSplittable c ≡ (leb 3 (kindIn c) && leb (kindIn c) 8)
-unfolding cellRecord
-splittable-kind (Input l) = refl
-splittable-kind (Output a l) = refl
-splittable-kind (Buf a) = refl
-splittable-kind (Not a) = refl
-splittable-kind (And a b) = refl
-splittable-kind (Or a b) = refl
-splittable-kind (Xor a b) = refl
-splittable-kind (Mux a b c) = refl
-splittable-kind (Aig p q) = refl
-
-module _ (c d : Cell) (same : kindIn c ≡ kindIn d) where
-  pub same-input : isInput c ≡ isInput d
-  same-input = rw (input-kind 0 c, input-kind 0 d, same)
-
-  pub same-output : isOutput c ≡ isOutput d
-  same-output = rw (output-kind 0 c, output-kind 0 d, same)
-
-  pub same-effects : hasEffects c ≡ hasEffects d
-  unfolding hasEffects
-  same-effects = rw (same-input, same-output)
-
-  pub same-buf : isBuf c ≡ isBuf d
-  same-buf = rw (buf-kind c, buf-kind d, same)
-
-  pub same-ruled : isRuled c ≡ isRuled d
-  same-ruled = rw (ruled-kind c, ruled-kind d, same)
-
-  pub same-splittable : isSplittable c ≡ isSplittable d
-  same-splittable = rw (splittable-kind c, splittable-kind d, same)
+pub bufs-by : ByKind isBuf
+bufs-by = record { test = λ k. eqb k 3; is = buf-kind }
 
 -- Nets by another numbering
 module _ (p : ℕ → ℕ) where
@@ -252,7 +190,7 @@ module _ (p : ℕ → ℕ) where
   renumber-slot n x e = ap (drivenAs p n) e
 
   pub renumber-in : (s : ℕ) → s ≤ 65536 → renumber p (netIn s) ≡ netIn (p s)
-  renumber-in s h = renumber-slot (netIn s) _ (driver-in s h)
+  renumber-in s h = renumber-slot (netIn s) _ (driver-cell (slotAt s) (omega arith))
 
   pub renumber-fixes : ((s : ℕ) → p s ≤ 65536) → Fixes (renumber p)
   unfolding isConst
@@ -265,10 +203,10 @@ module _ (p : ℕ → ℕ) where
     where
       go : (n : Net) (x : Driver) → driver n ≡ x → constant (driver n) ≡ false → constant (driver (renumber p n)) ≡ false
       go n (driven.Const t) e f = rw (renumber-const n t e) f
-      go n (driven.Cell x) e f = rw (renumber-slot n x e, driver-in (p (x .0)) (h (x .0))) refl
+      go n (driven.Cell x) e f = rw (renumber-slot n x e, driver-cell (slotAt (p (x .0))) (omega (arith, h (x .0)))) refl
 
 -- two numberings that agree on the slot of a net
-pub renumber-same : (p q : ℕ → ℕ) (n : Net) → ((x : Slot) → driver n ≡ driven.Cell x → p (x .0) ≡ q (x .0)) → renumber p n ≡ renumber q n
+pub renumber-same : (p q : ℕ → ℕ) (n : Net) → Drives (λ x. p x ≡ q x) n → renumber p n ≡ renumber q n
 renumber-same p q n h = go (driver n) refl
   where
     go : (x : Driver) → driver n ≡ x → renumber p n ≡ renumber q n
@@ -276,7 +214,7 @@ renumber-same p q n h = go (driver n) refl
     go (driven.Cell x) e = renumber-slot p n x e ∙ ap netIn (h x e) ∙ sym (renumber-slot q n x e)
 
 -- one numbering after another
-pub renumber-renumber : (p q : ℕ → ℕ) (n : Net) → ((x : Slot) → driver n ≡ driven.Cell x → p (x .0) ≤ 65536)
+pub renumber-renumber : (p q : ℕ → ℕ) (n : Net) → Drives (λ x. p x ≤ 65536) n
     → renumber q (renumber p n) ≡ renumber (λ s. q (p s)) n
 renumber-renumber p q n h = go (driver n) refl
   where
@@ -285,7 +223,7 @@ renumber-renumber p q n h = go (driver n) refl
     go (driven.Cell x) e = rw (renumber-slot p n x e) (renumber-in q (p (x .0)) (h x e) ∙ sym (renumber-slot (λ s. q (p s)) n x e))
 
 -- a numbering that leaves the slot of a net
-pub renumber-stays : (p : ℕ → ℕ) (n : Net) → ((x : Slot) → driver n ≡ driven.Cell x → p (x .0) ≡ x .0) → renumber p n ≡ n
+pub renumber-stays : (p : ℕ → ℕ) (n : Net) → Drives (λ x. p x ≡ x) n → renumber p n ≡ n
 renumber-stays p n h = go (driver n) refl
   where
     go : (x : Driver) → driver n ≡ x → renumber p n ≡ n

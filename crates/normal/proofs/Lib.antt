@@ -1,4 +1,5 @@
 pub mod Normal
+pub mod Applies
 pub mod Rules
 pub mod Alike
 pub mod Pairs

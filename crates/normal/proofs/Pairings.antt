@@ -1,41 +1,28 @@
 -- Pairing off is the same both ways, and goes on from one netlist to the next. Assumes nothing.
 use mathlib.Core.Path.{_≡_, refl, sym, ap, _∙_, subst}
-use mathlib.Core.List.{List, [], _∷_, map}
+use mathlib.Core.List.{map-map, map-id, List, map}
 use mathlib.Core.Logic.{inl}
+use mathlib.Core.Bool.{Bool}
 use Prim.Native.Nat.{ℕ, _≤_, _<_}
 use native.Mathlib.Omega.{arith}
 use lib.ListN.{length, getD}
 use Rattle.value.specs.declared.Net.{Net}
-use Rattle.value.specs.declared.Slot.{Slot}
-use Rattle.value.specs.declared.Driver.the-variants as driven
-use Rattle.value.specs.Value.{driver}
 use Rattle.cell.specs.declared.Cell.{Cell}
-use Rattle.netlist.specs.Shape.{visit, visitMut}
-use Rattle.netlist.specs.Netlist.{Netlist, cellIn, slots}
+use Rattle.netlist.specs.Shape.{visit, visitMut, isInput, isOutput}
+use Rattle.netlist.specs.Netlist.{Netlist, cellIn, slots, those}
 use Rattle.levels.specs.Evaluate.{inputSlots, outputSlots}
-use Rattle.levels_laws.specs.Algebra.{All, Before, Ranked}
-use Rattle.levels_laws.proofs.Operands.{all-imp}
-use Rattle.kept.proofs.Lists.{all-those, all-tabulate, map-same}
+use Rattle.order_laws.specs.Members.{All, Drives}
+use Rattle.order_laws.proofs.Members.{all-imp, all-those, all-slots}
+use Rattle.order_laws.proofs.Lists.{map-same}
+use Rattle.levels_laws.specs.Algebra.{Before, Ranked}
 use Rattle.kept.proofs.Sound.{Sound}
 use Rattle.normal.specs.Paired.{Alike, renumber, PairedBy, Paired}
 use Rattle.normal.proofs.Alike.{visit-same, visit-stays, visit-back, alike-sym, alike-visit, image-image, renumber-stays, renumber-renumber}
 use Rattle.normal.proofs.Inverse.{Into, inverse, inverse-inside, inverse-right, inverse-left}
 
-map-map : (f g : ℕ → ℕ) (xs : List ℕ) → map f (map g xs) ≡ map (λ x. f (g x)) xs
-map-map f g [] = refl
-map-map f g (x ∷ xs) = ap (λ (l : List ℕ). f (g x) ∷ l) (map-map f g xs)
-
-map-none : (xs : List ℕ) → map (λ x. x) xs ≡ xs
-map-none [] = refl
-map-none (x ∷ xs) = ap (λ (l : List ℕ). x ∷ l) (map-none xs)
-
-inputs-inside : (cs : List Cell) → All (λ s. s < length cs) (inputSlots cs)
-unfolding inputSlots
-inputs-inside cs = all-those _ _ (slots (length cs)) (all-tabulate (λ s. s < length cs) (λ s. s) (length cs) (λ i l. l))
-
-outputs-inside : (cs : List Cell) → All (λ s. s < length cs) (outputSlots cs)
-unfolding outputSlots
-outputs-inside cs = all-those _ _ (slots (length cs)) (all-tabulate (λ s. s < length cs) (λ s. s) (length cs) (λ i l. l))
+-- slots of a sort are slots
+sort-inside : (sort : Cell → Bool) (cs : List Cell) → All (λ s. s < length cs) (those (λ s. sort (cellIn cs s)) (slots (length cs)))
+sort-inside sort cs = all-those (λ s. sort (cellIn cs s)) (λ s. s < length cs) (slots (length cs)) (all-slots (length cs))
 
 module _ (d : Netlist) (rank : ℕ → ℕ) (sound : Sound d rank) where
   abbrev total : ℕ
@@ -45,7 +32,7 @@ module _ (d : Netlist) (rank : ℕ → ℕ) (sound : Sound d rank) where
   cell = cellIn (d .cells)
 
   -- what holds of nets by their slots holds of each operand
-  operands : (P : Net → Type 0) → ((n : Net) → ((x : Slot) → driver n ≡ driven.Cell x → x .0 < total) → P n) → (s : ℕ) → s < total → All P (visit (cell s))
+  operands : (P : Net → Type 0) → ((n : Net) → Drives (λ x. x < total) n → P n) → (s : ℕ) → s < total → All P (visit (cell s))
   unfolding Ranked
   operands P f s l = all-imp (Before (d .cells) rank s) P (λ n h. f n (λ x e. h x e .0)) (visit (cell s)) (sound .ranked s l)
 
@@ -68,7 +55,7 @@ module _ (d : Netlist) (rank : ℕ → ℕ) (sound : Sound d rank) where
     list-back : (xs ys : List ℕ) → All (λ s. s < total) xs → map p xs ≡ ys → map back ys ≡ xs
     list-back xs ys h m =
         ap (map back) (sym m) ∙ map-map back p xs
-        ∙ map-same (λ s. back (p s)) (λ s. s) xs (all-imp (λ s. s < total) (λ s. back (p s) ≡ s) (inverse-left total p into) xs h) ∙ map-none xs
+        ∙ map-same (λ s. back (p s)) (λ s. s) xs (all-imp (λ s. s < total) (λ s. back (p s) ≡ s) (inverse-left total p into) xs h) ∙ map-id xs
 
     cells-back : (t : ℕ) → t < length (e .cells) → Alike (visitMut (renumber back) (cellIn (e .cells) t)) (cell (back t))
     cells-back t l =
@@ -84,12 +71,13 @@ module _ (d : Netlist) (rank : ℕ → ℕ) (sound : Sound d rank) where
         (alike-sym (visitMut (renumber back) (visitMut (renumber p) (cell s))) (visitMut (renumber back) c) (alike-visit (renumber back) (visitMut (renumber p) (cell s)) c there))
 
     back-by : PairedBy back e d
+    unfolding inputSlots outputSlots
     back-by = record {
       many = sym (pairs .many);
       inside = λ t l. inverse-inside total p into t (here t l);
       single = λ t t′ l l′ q. sym (there-back t l) ∙ ap p q ∙ there-back t′ l′;
-      inputs = list-back (inputSlots (d .cells)) (inputSlots (e .cells)) (inputs-inside (d .cells)) (pairs .inputs);
-      outputs = list-back (outputSlots (d .cells)) (outputSlots (e .cells)) (outputs-inside (d .cells)) (pairs .outputs);
+      inputs = list-back (inputSlots (d .cells)) (inputSlots (e .cells)) (sort-inside isInput (d .cells)) (pairs .inputs);
+      outputs = list-back (outputSlots (d .cells)) (outputSlots (e .cells)) (sort-inside isOutput (d .cells)) (pairs .outputs);
       bits = λ t l. ap (λ (i : ℕ). getD (e .bits) i 0) (sym (there-back t l)) ∙ sym (pairs .bits (back t) (inverse-inside total p into t (here t l)));
       cells = cells-back;
     }
@@ -117,8 +105,8 @@ module _ (d : Netlist) (rank : ℕ → ℕ) (sound : Sound d rank) where
     many = refl;
     inside = λ s l. l;
     single = λ s s′ l l′ h. h;
-    inputs = map-none (inputSlots (d .cells));
-    outputs = map-none (outputSlots (d .cells));
+    inputs = map-id (inputSlots (d .cells));
+    outputs = map-id (outputSlots (d .cells));
     bits = λ s l. refl;
     cells = λ s l. inl (visit-stays (renumber (λ i. i)) (cell s) (operands _ (λ n h. renumber-stays (λ i. i) n (λ x e. refl)) s l));
   }

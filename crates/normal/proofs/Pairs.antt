@@ -1,6 +1,6 @@
 -- What pairs off with a normal netlist is normal itself, if it is sound and all of it is reached. Assumes nothing.
 use mathlib.Core.Path.{_≡_, refl, sym, ap, _∙_, subst}
-use mathlib.Core.Bool.{true, false, cond, false≢true}
+use mathlib.Core.Bool.{true, false, cond, false≢true, Bool}
 use mathlib.Core.List.{List}
 use Prim.Native.Nat.{ℕ, _≤_, _<_}
 use native.Mathlib.Omega.{arith}
@@ -8,12 +8,13 @@ use native.Mathlib.Decide.{decLt}
 use lib.Dec.{ltb}
 use lib.ListN.{length, List·getD-eq-default}
 use borrow.Author.Tests.{ltb-true, lt-ltb}
+use Rattle.logic.proofs.Tests.{cond-has}
 use Rattle.value.specs.declared.Net.{Net}
 use Rattle.value.specs.declared.Slot.{Slot}
 use Rattle.value.specs.declared.Driver.{Driver}
 use Rattle.value.specs.declared.Driver.the-variants as driven
-use Rattle.value.specs.Value.{driver}
-use Rattle.logic.proofs.Tests.{cond-has}
+use Rattle.value.specs.Value.{driver, slotAt}
+use Rattle.value.proofs.Laws.{driver-cell}
 use Rattle.cell.specs.declared.Cell.{Cell}
 use Rattle.cell.specs.declared.Cell.the-variants.{Input}
 use Rattle.netlist.specs.Shape.{visit, visitMut, hasEffects}
@@ -21,14 +22,14 @@ use Rattle.netlist.specs.Netlist.{Netlist, cellIn}
 use Rattle.design.specs.declared.Source.the-variants.{Opaque, Known}
 use Rattle.design.specs.Queue.{netIn, sourceIn}
 use Rattle.design.specs.Compact.{keep, isKept}
+use Rattle.order_laws.proofs.Members.{all-imp}
+use Rattle.order_laws.proofs.Sorts.{ByKind, effects-by, inputs-by}
 use Rattle.levels_laws.specs.Algebra.{Before, Ranked}
-use Rattle.levels_laws.proofs.Operands.{all-imp}
 use Rattle.kept.proofs.Sound.{Sound}
-use Rattle.kept.proofs.Compact.{driver-in}
 use Rattle.normal.specs.Paired.{Alike, renumber, PairedBy}
 use Rattle.normal.proofs.Normal.{lookIn, Still, Normal}
 use Rattle.normal.proofs.Rules.{isRuled, Leads, Follows, still-follows}
-use Rattle.normal.proofs.Alike.{kindIn, visit-same, image-kind, image-alike, same-input, same-effects, same-buf, renumber-slot, renumber-same, renumber-fixes}
+use Rattle.normal.proofs.Alike.{visit-same, image-alike, renumber-slot, renumber-same, renumber-fixes, bufs-by, image-sort}
 
 -- a cell that a rule looks into is in a slot of the netlist
 pub record FoundAt (cs : List Cell) (n : Net) (c : Cell) : Type 0 where
@@ -60,8 +61,8 @@ module _ (p : ℕ → ℕ) (e d : Netlist) (rank rank′ : ℕ → ℕ) (pairs :
   abbrev image : ℕ → Cell
   image s = cellIn (d .cells) (p s)
 
-  same-kind : (s : ℕ) → s < total → kindIn (cell s) ≡ kindIn (image s)
-  same-kind s l = image-kind (renumber p) (cell s) (image s) (pairs .cells s l)
+  same : {sort : Cell → Bool} → ByKind sort → (s : ℕ) → s < total → sort (cell s) ≡ sort (image s)
+  same by s l = image-sort by (renumber p) (cell s) (image s) (pairs .cells s l)
 
   target-small : (s : ℕ) → s < total → p s ≤ 65536
   target-small s l =
@@ -103,7 +104,7 @@ module _ (p : ℕ → ℕ) (e d : Netlist) (rank rank′ : ℕ → ℕ) (pairs :
             cell = image s;
             found =
                 ap (lookIn (d .cells)) (renumber-slot within n (at .slot) (at .drives) ∙ ap netIn (within-as s (at .inside)))
-                ∙ ap (sourceIn (d .cells)) (driver-in (p s) (target-small s (at .inside)));
+                ∙ ap (sourceIn (d .cells)) (driver-cell (slotAt (p s)) (omega (arith, target-small s (at .inside))));
             alike = subst (λ (x : Cell). Alike (visitMut renamed x) (image s)) (at .is) (image-of s (at .inside));
           }
 
@@ -111,20 +112,20 @@ module _ (p : ℕ → ℕ) (e d : Netlist) (rank rank′ : ℕ → ℕ) (pairs :
   still s l =
       let there : Still (d .cells) (image s) = normal .still (p s) (pairs .inside s l) in
       record {
-        unbuffered = same-buf (cell s) (image s) (same-kind s l) ∙ there .unbuffered;
+        unbuffered = same bufs-by s l ∙ there .unbuffered;
         still = still-follows renamed (lookIn (e .cells)) (lookIn (d .cells)) follows (cell s) (image s) (image-of s l) (there .still);
       }
 
   distinct : (s s′ : ℕ) → s < total → s′ < total → hasEffects (cell s) ≡ false → Alike (cell s) (cell s′) → s ≡ s′
   distinct s s′ l l′ h a =
       pairs .single s s′ l l′
-      (normal .distinct (p s) (p s′) (pairs .inside s l) (pairs .inside s′ l′) (sym (same-effects (cell s) (image s) (same-kind s l)) ∙ h)
+      (normal .distinct (p s) (p s′) (pairs .inside s l) (pairs .inside s′ l′) (sym (same effects-by s l) ∙ h)
       (image-alike (renumber p) (cell s) (cell s′) (image s) (image s′) (pairs .cells s l) (pairs .cells s′ l′) a))
 
   pub paired-normal : ((s : ℕ) → s < total → isKept (e .bits) (keep e) s ≡ true) → Normal e rank′
   paired-normal reached = record {
     sound = sound;
-    single = λ s l h. pairs .bits s l ∙ normal .single (p s) (pairs .inside s l) (sym (same-input (cell s) (image s) (same-kind s l)) ∙ h);
+    single = λ s l h. pairs .bits s l ∙ normal .single (p s) (pairs .inside s l) (sym (same inputs-by s l) ∙ h);
     still = still;
     distinct = distinct;
     reached = reached;

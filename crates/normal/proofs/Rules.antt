@@ -1,7 +1,7 @@
 -- The tests of the rules are positive: they ask for equal nets, kinds and signs, never for different ones. So a rule that applies to a cell
 -- still applies when nets are renamed, even two to one, and operands are exchanged. Assumes nothing.
 use mathlib.Core.Path.{_≡_, refl, sym, ap, _∙_, subst}
-use mathlib.Core.Bool.{Bool, true, false, cond, _&&_, _||_, false≢true}
+use mathlib.Core.Bool.{Bool, true, false, false≢true}
 use mathlib.Core.Logic.{inl, inr, ⊎-elim}
 use Rattle.logic.specs.declared.Trit.{Trit}
 use Rattle.logic.specs.declared.Trit.the-variants.{Zero, One, Undef}
@@ -17,91 +17,15 @@ use Rattle.netlist.specs.Shape.{visit, visitControl, visitMut}
 use Rattle.design.specs.declared.Source.{Source}
 use Rattle.design.specs.declared.Source.the-variants.{Known}
 use Rattle.normalize.specs.declared.Outcome.{Outcome}
-use Rattle.normalize.specs.declared.Outcome.the-variants.{None, Value, Form, Add, NotOf, AddNotOf}
-use Rattle.normalize.specs.Outcomes.{_orElse_, given, eitherWay, fromControl}
-use Rattle.aig.specs.Aig.{ifNot, ifAig, ifXor, differ, notRule, aigOfNot, andAnd, andWith, aigOfAnd, nandAnd, xorOf, nandNand, nandWith, aigOfNand, xorAnd, xorWith, aigOfXor, aigOrder, aigRule, andXor, xorXor, xorOrder, xorRule, simpleAigOpt}
-use Rattle.aig_laws.proofs.Strings.{and-both, or-either, HasAig, aig-as, aig-turned, HasXor, xor-as, xor-turned, has-orElse, has-given, has-ifNot, has-aig, has-xor}
-use Rattle.levels_laws.specs.Algebra.{All}
-use Rattle.levels_laws.proofs.Operands.{all-every}
+use Rattle.normalize.specs.declared.Outcome.the-variants.{None}
+use Rattle.normalize.specs.Outcomes.{given, eitherWay}
+use Rattle.aig.specs.Aig.{ifNot, ifAig, ifXor, notRule, aigOfNot, andAnd, andWith, aigOfAnd, nandAnd, nandNand, nandWith, aigOfNand, xorAnd, xorWith, aigOfXor, aigOrder, aigRule, andXor, xorXor, xorOrder, xorRule, simpleAigOpt}
+use Rattle.order_laws.specs.Members.{All}
+use Rattle.order_laws.proofs.Members.{all-every}
+use Rattle.aig_laws.proofs.Strings.{HasAig, as-is, turned, HasXor, has-ifNot, has-aig, has-xor, has-turned, Has}
 use Rattle.normal.specs.Paired.{exchange, Alike}
 use Rattle.normal.proofs.Normal.{fires}
-
--- Outcomes by whether a rule applies
-infix 10 _⊴_
--- if x applies, y does
-record _⊴_ (x y : Outcome) : Type 0 where
-  applies : fires x ≡ true → fires y ≡ true
-
-none : (y : Outcome) → None ⊴ y
-none y = record { applies = λ e. absurd (false≢true e) }
-
-by : (x y : Outcome) → fires y ≡ true → x ⊴ y
-by x y e = record { applies = λ f. e }
-
-fires-left : (x y : Outcome) → fires x ≡ true → fires (x orElse y) ≡ true
-unfolding _orElse_
-fires-left None y e = absurd (false≢true e)
-fires-left (Value n) y e = refl
-fires-left (Form c) y e = refl
-fires-left (Add c) y e = refl
-fires-left (NotOf c) y e = refl
-fires-left (AddNotOf c) y e = refl
-
-fires-right : (x y : Outcome) → fires y ≡ true → fires (x orElse y) ≡ true
-unfolding _orElse_
-fires-right None y e = e
-fires-right (Value n) y e = refl
-fires-right (Form c) y e = refl
-fires-right (Add c) y e = refl
-fires-right (NotOf c) y e = refl
-fires-right (AddNotOf c) y e = refl
-
-into-left : {x y : Outcome} (z : Outcome) → x ⊴ y → x ⊴ y orElse z
-into-left {x} {y} z h = record { applies = λ e. fires-left y z (h .applies e) }
-
-into-right : {x z : Outcome} (y : Outcome) → x ⊴ z → x ⊴ y orElse z
-into-right {x} {z} y h = record { applies = λ e. fires-right y z (h .applies e) }
-
-from-both : {x y z : Outcome} → x ⊴ z → y ⊴ z → x orElse y ⊴ z
-from-both {x} {y} {z} = has-orElse (λ o. o ⊴ z) x y
-
-infixr 20 _also_
--- an alternative for each
-_also_ : {x y x′ y′ : Outcome} → x ⊴ x′ → y ⊴ y′ → x orElse y ⊴ x′ orElse y′
-_also_ {x} {y} {x′} {y′} f g = from-both (into-left y′ f) (into-right x′ g)
-
-exchanged : {x y x′ y′ : Outcome} → x ⊴ y′ → y ⊴ x′ → x orElse y ⊴ x′ orElse y′
-exchanged {x} {y} {x′} {y′} f g = from-both (into-right x′ f) (into-left y′ g)
-
-into-given : {x y : Outcome} (t : Bool) → t ≡ true → x ⊴ y → x ⊴ given t y
-into-given {x} {y} t e h = rw e h
-
--- a test that goes over, and an outcome that applies
-test : {t t′ : Bool} (x y : Outcome) → (t ≡ true → t′ ≡ true) → fires y ≡ true → given t x ⊴ given t′ y
-test {t} {t′} x y f e = has-given (λ o. o ⊴ given t′ y) (none (given t′ y)) t x (λ b. into-given t′ (f b) (by x y e))
-
-both : (a b a′ b′ : Bool) → (a ≡ true → a′ ≡ true) → (b ≡ true → b′ ≡ true) → (a && b) ≡ true → (a′ && b′) ≡ true
-both a b a′ b′ f g e = let h : (a ≡ true) × (b ≡ true) = and-both a b e in rw (f (h .0)) (g (h .1))
-
-one-of : (a b a′ b′ : Bool) → (a ≡ true → a′ ≡ true) → (b ≡ true → b′ ≡ true) → (a || b) ≡ true → (a′ || b′) ≡ true
-one-of a b a′ b′ f g e = or-either a b e (λ h. rw (f h) refl) (λ h. right a′ (g h))
-  where
-    right : (c : Bool) → b′ ≡ true → (c || b′) ≡ true
-    right true h = refl
-    right false h = h
-
-from-control-fires : (p : ControlNet) → fires (fromControl p) ≡ true
-unfolding fromControl
-from-control-fires (Pos n) = refl
-from-control-fires (Neg n) = refl
-
-xor-of-fires : (p q : ControlNet) → fires (xorOf p q) ≡ true
-unfolding xorOf
-xor-of-fires p q = go (differ (isNegative p) (isNegative q))
-  where
-    go : (b : Bool) → fires (cond b (NotOf (Xor (net p) (net q))) (Form (Xor (net p) (net q)))) ≡ true
-    go true = refl
-    go false = refl
+use Rattle.normal.proofs.Applies.{_⊴_, self, none, by, into-left, into-right, _also_, exchanged, into-given, test, both, one-of, from-control-fires, xor-of-fires}
 
 -- Cells that a rule looks into
 abbrev pub isRuled : Cell → Bool
@@ -188,33 +112,28 @@ module _ (g : Net → Net) (fixes : Fixes g) where
       let c : Carried g (Not v) src′ = l (Not v) e refl in
       c .found ∙ sym (ap Known (⊎-elim (λ h. h) (λ h. h) (c .alike)))
 
-  aig-leads : (src src′ : Source) → Leads g src src′ → (p q : ControlNet) → src ≡ Known (Aig p q) → HasAig src′ (G p) (G q)
-  unfolding visitMut exchange
-  aig-leads src src′ l p q e =
-      let c : Carried g (Aig p q) src′ = l (Aig p q) e refl in
-      ⊎-elim (λ h. aig-as (c .found ∙ sym (ap Known h))) (λ h. aig-turned (c .found ∙ sym (ap Known h))) (c .alike)
+  -- of two operands, f being what the renaming does to each
+  over : {A : Type 0} (make : A → A → Cell) (f : A → A) → ((p q : A) → isRuled (make p q) ≡ true) → ((p q : A) → visitMut g (make p q) ≡ make (f p) (f q))
+      → ((p q : A) → exchange (make p q) ≡ make q p) → (src src′ : Source) → Leads g src src′ → (p q : A) → Has make src p q → Has make src′ (f p) (f q)
+  over {A} make f ruled renamed exchanged src src′ l = both-ways
+    where
+      leads : (p q : A) → src ≡ Known (make p q) → Has make src′ (f p) (f q)
+      leads p q e =
+          let c : Carried g (make p q) src′ = l (make p q) e (ruled p q) in
+          ⊎-elim (λ h. as-is (c .found ∙ ap Known (sym h ∙ renamed p q)))
+          (λ h. turned (c .found ∙ ap Known (sym h ∙ ap exchange (renamed p q) ∙ exchanged (f p) (f q)))) (c .alike)
+
+      both-ways : (p q : A) → Has make src p q → Has make src′ (f p) (f q)
+      both-ways p q (as-is e) = leads p q e
+      both-ways p q (turned e) = has-turned make src′ (f q) (f p) (leads q p e)
 
   aig-over : (src src′ : Source) → Leads g src src′ → (p q : ControlNet) → HasAig src p q → HasAig src′ (G p) (G q)
-  aig-over src src′ l p q (aig-as e) = aig-leads src src′ l p q e
-  aig-over src src′ l p q (aig-turned e) = turned (aig-leads src src′ l q p e)
-    where
-      turned : HasAig src′ (G q) (G p) → HasAig src′ (G p) (G q)
-      turned (aig-as f) = aig-turned f
-      turned (aig-turned f) = aig-as f
-
-  xor-leads : (src src′ : Source) → Leads g src src′ → (x y : Net) → src ≡ Known (Xor x y) → HasXor src′ (g x) (g y)
   unfolding visitMut exchange
-  xor-leads src src′ l x y e =
-      let c : Carried g (Xor x y) src′ = l (Xor x y) e refl in
-      ⊎-elim (λ h. xor-as (c .found ∙ sym (ap Known h))) (λ h. xor-turned (c .found ∙ sym (ap Known h))) (c .alike)
+  aig-over = over Aig G (λ p q. refl) (λ p q. refl) (λ p q. refl)
 
   xor-over : (src src′ : Source) → Leads g src src′ → (x y : Net) → HasXor src x y → HasXor src′ (g x) (g y)
-  xor-over src src′ l x y (xor-as e) = xor-leads src src′ l x y e
-  xor-over src src′ l x y (xor-turned e) = turned (xor-leads src src′ l y x e)
-    where
-      turned : HasXor src′ (g y) (g x) → HasXor src′ (g x) (g y)
-      turned (xor-as f) = xor-turned f
-      turned (xor-turned f) = xor-as f
+  unfolding visitMut exchange
+  xor-over = over Xor g (λ x y. refl) (λ x y. refl) (λ x y. refl)
 
   not-over : (src src′ : Source) → Leads g src src′ → (f f′ : Net → Outcome) → ((v : Net) → fires (f′ v) ≡ true) → ifNot src f ⊴ ifNot src′ f′
   unfolding ifNot
@@ -224,8 +143,8 @@ module _ (g : Net → Net) (fixes : Fixes g) where
   into-aig : {x : Outcome} (src : Source) (t : Bool) (body : ControlNet → ControlNet → Outcome) (p q : ControlNet)
       → HasAig src p q → t ≡ true → x ⊴ body p q → x ⊴ ifAig src (λ p q. given t (eitherWay body p q))
   unfolding ifAig
-  into-aig src t body p q (aig-as e) b h = rw e (into-given t b (into-left (body q p) h))
-  into-aig src t body p q (aig-turned e) b h = rw e (into-given t b (into-right (body q p) h))
+  into-aig src t body p q (as-is e) b h = rw e (into-given t b (into-left (body q p) h))
+  into-aig src t body p q (turned e) b h = rw e (into-given t b (into-right (body q p) h))
 
   aig : (src src′ : Source) → Leads g src src′ → (t t′ : Bool) → (t ≡ true → t′ ≡ true) → (body body′ : ControlNet → ControlNet → Outcome)
       → ((p q : ControlNet) → body p q ⊴ body′ (G p) (G q))
@@ -236,8 +155,8 @@ module _ (g : Net → Net) (fixes : Fixes g) where
 
   into-xor : {x : Outcome} (src : Source) (body : Net → Net → Outcome) (a b : Net) → HasXor src a b → x ⊴ body a b → x ⊴ ifXor src (eitherWay body)
   unfolding ifXor
-  into-xor src body a b (xor-as e) h = rw e (into-left (body b a) h)
-  into-xor src body a b (xor-turned e) h = rw e (into-right (body b a) h)
+  into-xor src body a b (as-is e) h = rw e (into-left (body b a) h)
+  into-xor src body a b (turned e) h = rw e (into-right (body b a) h)
 
   xor : (src src′ : Source) → Leads g src src′ → (body body′ : Net → Net → Outcome) → ((a b : Net) → body a b ⊴ body′ (g a) (g b))
       → ifXor src (eitherWay body) ⊴ ifXor src′ (eitherWay body′)
@@ -346,25 +265,22 @@ module _ (g : Net → Net) (fixes : Fixes g) where
     renamed (Buf a) l = none None
     renamed (Mux a b c) l = none None
 
-self : (x : Outcome) → x ⊴ x
-self x = record { applies = λ e. e }
-
-turned : (look : Net → Source) (c : Cell) → simpleAigOpt look c ⊴ simpleAigOpt look (exchange c)
+fires-exchanged : (look : Net → Source) (c : Cell) → simpleAigOpt look c ⊴ simpleAigOpt look (exchange c)
 unfolding simpleAigOpt exchange aigRule xorRule
-turned look (Aig p q) = exchanged (self _) (self _)
-turned look (Xor a b) = exchanged (self _) (self _)
-turned look (Not a) = self _
-turned look (And a b) = self _
-turned look (Or a b) = self _
-turned look (Input l) = self _
-turned look (Output a l) = self _
-turned look (Buf a) = self _
-turned look (Mux a b c) = self _
+fires-exchanged look (Aig p q) = exchanged (self _) (self _)
+fires-exchanged look (Xor a b) = exchanged (self _) (self _)
+fires-exchanged look (Not a) = self _
+fires-exchanged look (And a b) = self _
+fires-exchanged look (Or a b) = self _
+fires-exchanged look (Input l) = self _
+fires-exchanged look (Output a l) = self _
+fires-exchanged look (Buf a) = self _
+fires-exchanged look (Mux a b c) = self _
 
 -- a rule that applies to a cell applies to one alike
 pub fires-alike : (look : Net → Source) (c c′ : Cell) → Alike c c′ → fires (simpleAigOpt look c) ≡ true → fires (simpleAigOpt look c′) ≡ true
 fires-alike look c c′ (inl e) f = subst (λ x. fires (simpleAigOpt look x) ≡ true) e f
-fires-alike look c c′ (inr e) f = subst (λ x. fires (simpleAigOpt look x) ≡ true) e (turned look c .applies f)
+fires-alike look c c′ (inr e) f = subst (λ x. fires (simpleAigOpt look x) ≡ true) e (fires-exchanged look c .applies f)
 
 -- and to one by other nets. It is enough to follow the look-ups of the cell's operands
 pub fires-over : (g : Net → Net) → Fixes g → (look look′ : Net → Source) (c c′ : Cell) → All (λ n. Leads g (look n) (look′ (g n))) (visit c)

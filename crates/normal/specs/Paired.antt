@@ -1,7 +1,7 @@
 -- Two netlists with the same records up to renumbering and the exchange of operands (paper, "What demand 3 compares"). Assumes nothing: these
 -- are definitions.
 use mathlib.Core.Path.{_≡_}
-use mathlib.Core.List.{List, map}
+use mathlib.Core.List.{map}
 use mathlib.Core.Logic.{_⊎_}
 use Prim.Native.Nat.{ℕ, _<_}
 use lib.ListN.{length, getD}

@@ -1,28 +1,23 @@
 -- The bit order: each bit once, and after the bits that it reads where a rank falls along them. Assumes nothing.
 use mathlib.Core.Path.{_≡_, refl, sym, ap, _∙_}
-use mathlib.Core.Bool.{Bool, true, false, _||_}
+use mathlib.Core.Bool.{Bool, true, false, not, _||_}
 use mathlib.Core.List.{List, [], _∷_, _++_, reverse, reverseAux}
-use Prim.Native.Nat.{ℕ, zero, suc, _≤_, _<_}
+use Prim.Native.Nat.{ℕ, _<_}
 use native.Mathlib.Omega.{arith}
+use native.Mathlib.Decide.{decLt}
 use lib.Dec.{eqb}
-use borrow.Author.Tests.{eqb-true, eqb-false}
-use lib.ListN.{length}
+use lib.ListN.{length, List·getD-eq-default}
+use Rattle.value.specs.declared.Net.{Net}
 use Rattle.cell.specs.declared.Cell.{Cell}
-use Rattle.cell.specs.Tabulate.{tabulate}
-use Rattle.netlist.specs.Netlist.{slots}
+use Rattle.cell.specs.declared.Cell.the-variants.{Input}
+use Rattle.netlist.specs.Shape.{visit, isInput}
+use Rattle.netlist.specs.Netlist.{cellIn, slots, sources}
 use Rattle.order.specs.Orders.{bitDeps, topoSort}
-use Rattle.order_laws.specs.Ordered.{has, OnceAfter, FedAfter, Each}
-use Rattle.order_laws.proofs.Walks.{either, has-snoc-same, has-snoc-other, walk-each, walk-ordered}
-
--- every number below n is among the slots
-pub has-slots : (n s : ℕ) → s < n → has s (slots n) ≡ true
-unfolding tabulate
-has-slots zero s l = absurd (omega arith)
-has-slots (suc n) s l =
-    let h : s < n → has s (slots n) ≡ true = has-slots n s in
-    either (eqb s n)
-    (λ e. ap (λ x. has x (slots n ++ (n ∷ []))) (eqb-true s n e) ∙ has-snoc-same (slots n) n)
-    (λ e. has-snoc-other s (slots n) n (eqb-false s n e) ∙ h (omega (arith, eqb-false s n e)))
+use Rattle.order_laws.specs.Ordered.{has, FedAfter, Each}
+use Rattle.order_laws.specs.Members.{All, Drives}
+use Rattle.order_laws.proofs.Members.{has-slots, has-passing, those-has}
+use Rattle.order_laws.proofs.Walks.{walk-each, walk-ordered}
+use Rattle.order_laws.proofs.Operands.{all-sources, input-reads, sources-all}
 
 or-swap : (a b c : Bool) → (a || (b || c)) ≡ (b || a || c)
 or-swap true true c = refl
@@ -61,3 +56,21 @@ topoSort-fed cs rank falls =
     fed-as (length cs) (λ s. reverse (bitDeps cs s)) (bitDeps cs) (λ s d. sym (has-reverse d (bitDeps cs s))) [] _
     (walk-ordered (length cs) (λ s. reverse (bitDeps cs s)) (slots (length cs)) (has-slots (length cs)) rank
     (λ s d h. falls s d (sym (has-reverse d (bitDeps cs s)) ∙ h)))
+
+-- what holds of each slot that drives an operand holds of each bit that a bit depends on
+pub deps-have : (P : ℕ → Type 0) (cs : List Cell) (s : ℕ) → (s < length cs → All (Drives P) (visit (cellIn cs s))) → (d : ℕ) → has d (bitDeps cs s) ≡ true → P d
+unfolding bitDeps
+deps-have P cs s h d e =
+    sources-all P (visit (cellIn cs s)) (go (decLt s (length cs))) d (those-has (λ x. not (isInput (cellIn cs x))) (sources (visit (cellIn cs s))) d e)
+  where
+    go : Dec (s < length cs) → All (Drives P) (visit (cellIn cs s))
+    go (yes l) = h l
+    go (no l) = rw (List·getD-eq-default cs (Input 0) {n = s} (omega arith)) (input-reads (Drives P) (Input 0) refl)
+
+-- and each slot that drives an operand is an input or one of those bits
+pub reads-deps : (cs : List Cell) (s : ℕ) → All (Drives (λ x. isInput (cellIn cs x) ≡ false → has x (bitDeps cs s) ≡ true)) (visit (cellIn cs s))
+unfolding bitDeps
+reads-deps cs s =
+    let ns : List Net = visit (cellIn cs s) in
+    all-sources (λ x. isInput (cellIn cs x) ≡ false → has x (bitDeps cs s) ≡ true) ns
+    (λ x h i. has-passing (λ y. not (isInput (cellIn cs y))) (sources ns) x h (ap not i))

@@ -2,46 +2,32 @@
 use mathlib.Core.Path.{_≡_, refl, sym, ap, _∙_, subst}
 use mathlib.Core.Bool.{Bool, true, false, cond, not, _&&_, _||_, true≢false, false≢true}
 use mathlib.Core.List.{List, [], _∷_, _++_, append-assoc, append-nil}
-use Prim.Native.Nat.{ℕ, zero, suc, _+_, _≤_, _<_}
+use Prim.Native.Nat.{ℕ, zero, suc, _+_, _<_}
 use native.Mathlib.Omega.{arith}
 use lib.Dec.{eqb}
-use lib.ListN.{length, getD, set}
-use lib.Seq.{getD-set-same, getD-set-other}
-use borrow.Author.Tests.{eqb-true, eqb-false}
-use Rattle.cell.specs.declared.Cell.{Cell}
-use Rattle.cell.specs.declared.Cell.the-variants.{Input, Output, Buf, Not, And, Or, Xor, Mux, Aig}
+use lib.ListN.{length, getD}
+use lib.Seq.{getD-set-other}
 use Rattle.cell.specs.Tabulate.{tabulate}
 use Rattle.netlist.specs.Shape.{isInput, isOutput}
 use Rattle.netlist.specs.Netlist.{Netlist, cellIn, slots, those, iterCells, cellDeps}
-use Rattle.order.specs.Walk.{Walk, isVisited, mark, push, each, down, walk, unvisited, fresh, walkFrom}
+use Rattle.order.specs.Walk.{Walk, isVisited, mark, each, walk, fresh, walkFrom}
 use Rattle.order.specs.Orders.{emit, iterCellsTopo}
 use Rattle.order_laws.specs.Ordered.{has, OnceAfter}
-use Rattle.order_laws.proofs.Walks.{either, never, eqb-self, or-left, or-right, or-none, has-append, has-snoc, has-snoc-same, has-snoc-other, Inv, Goes, goes-none, goes-on, Went, WentAll, each-went, mark-inv, push-went, walk-went, fresh-inv, fresh-new, count-replicate, once-snoc}
-
--- what is before is not after
-once-not : (before ss : List ℕ) (x : ℕ) → OnceAfter before ss → has x before ≡ true → has x ss ≡ false
-unfolding OnceAfter has
-once-not before [] x o h = refl
-once-not before (s ∷ ss) x o h =
-    either (eqb x s) (λ e. never h (ap (λ y. has y before) (eqb-true x s e) ∙ o .0))
-    (λ e. or-none (eqb x s) (has x ss) e
-    ∙ once-not (before ++ (s ∷ [])) ss x (o .1) (has-append x before (s ∷ []) ∙ or-left (has x before) _ h))
-
-first : (y : ℕ) (ys : List ℕ) → has y (y ∷ ys) ≡ true
-unfolding has
-first y ys = or-left (eqb y y) (has y ys) (eqb-self y)
-
-second : (x y : ℕ) (ys : List ℕ) → has x ys ≡ true → has x (y ∷ ys) ≡ true
-unfolding has
-second x y ys e = or-right (eqb x y) (has x ys) e
+use Rattle.order_laws.specs.Members.{All}
+use Rattle.order_laws.proofs.Truth.{either, never, or-left, or-right, or-none, and-both}
+use Rattle.order_laws.proofs.Members.{all-has, has-first, has-later, has-append, has-snoc-same, has-snoc-other, has-snoc-old, slots-small, has-those, those-has}
+use Rattle.order_laws.proofs.Lists.{getD-any, getD-same}
+use Rattle.order_laws.proofs.Sorts.{input-no-output}
+use Rattle.order_laws.proofs.Walks.{Inv, goes-none, goes-on, Went, WentAll, went-none, went-then, each-went, mark-inv, push-went, walk-went, fresh-inv, fresh-new, count-replicate, once-not, once-snoc}
+use Rattle.order_laws.proofs.Closed.{Only, mark-only, each-only, walk-only}
 
 -- two lists, each once and apart, are once together
 once-apart : (before done ys : List ℕ) → OnceAfter done ys → ((x : ℕ) → has x ys ≡ true → has x before ≡ false) → OnceAfter (before ++ done) ys
 unfolding OnceAfter
 once-apart before done [] p f = tt
 once-apart before done (y ∷ ys) p f = (
-  has-append y before done ∙ or-none (has y before) (has y done) (f y (first y ys)) ∙ p .0,
-  rw (append-assoc before done (y ∷ [])) (once-apart before (done ++ (y ∷ [])) ys (p .1) (λ x e. f x (second x y ys e))),
+  has-append y before done ∙ or-none (has y before) (has y done) (f y (has-first y ys)) ∙ p .0,
+  rw (append-assoc before done (y ∷ [])) (once-apart before (done ++ (y ∷ [])) ys (p .1) (λ x e. f x (has-later x y ys e))),
 )
 
 once-both : (before xs ys : List ℕ) → OnceAfter before xs → ((x : ℕ) → has x ys ≡ true → has x (before ++ xs) ≡ false) → OnceAfter [] ys → OnceAfter before (xs ++ ys)
@@ -57,46 +43,15 @@ module _ (n : ℕ) (deps : ℕ → List ℕ) where
 
   emit-all : (before ss : List ℕ) (w : Walk) → Inv n w → OnceAfter before ss → ((s : ℕ) → has s ss ≡ true → isVisited w s ≡ false)
       → WentAll n deps ss w (each emit ss w)
-  unfolding each has OnceAfter
-  emit-all before [] w i o f = record { inv = i; goes = goes-none w; there = λ d e. absurd (false≢true e) }
+  unfolding each OnceAfter
+  emit-all before [] w i o f = went-none n deps w i
   emit-all before (s ∷ ss) w i o f =
-      let a : Went n deps s w (emit s w) = emit-went s w i (f s (first s ss)) in
-      let b : WentAll n deps ss (emit s w) (each emit ss (emit s w)) =
-      emit-all (before ++ (s ∷ [])) ss (emit s w) (a .inv) (o .1) (λ x e.
+      let a : Went n deps s w (emit s w) = emit-went s w i (f s (has-first s ss)) in
+      went-then n deps s ss w (emit s w) (each emit ss (emit s w)) a
+      (emit-all (before ++ (s ∷ [])) ss (emit s w) (a .inv) (o .1) (λ x e.
       getD-set-other (w .visited) s x true true
       (λ q. never e (once-not (before ++ (s ∷ [])) ss x (o .1) (ap (λ y. has y (before ++ (s ∷ []))) q ∙ has-snoc-same before s)))
-      ∙ f x (second x s ss e)) in
-      record {
-        inv = b .inv;
-        goes = goes-on w (emit s w) (each emit ss (emit s w)) (a .goes) (b .goes);
-        there = λ d e. either (eqb d s)
-            (λ g. b .goes .grown d (subst (λ x. isVisited (emit s w) x ≡ true) (sym (eqb-true d s g)) (a .there)))
-            (λ g. b .there d (sym (or-none (eqb d s) (has d ss) g) ∙ e));
-      }
-
-  -- only items that pass p are visited
-  module _ (p : ℕ → Bool) (depend : (s x : ℕ) → has x (deps s) ≡ true → p x ≡ true) where
-    abbrev Only : Walk → Type 0
-    Only w = (x : ℕ) → x < n → isVisited w x ≡ true → p x ≡ true
-
-    mark-only : (s : ℕ) (w : Walk) → p s ≡ true → Only w → Only (mark s w)
-    mark-only s w e o x l v =
-        either (eqb x s) (λ g. ap p (eqb-true x s g) ∙ e) (λ g. o x l (sym (getD-set-other (w .visited) s x true true (eqb-false x s g)) ∙ v))
-
-    each-only : (go : ℕ → Walk → Walk) → ((s : ℕ) (w : Walk) → p s ≡ true → Only w → Only (go s w)) → (ds : List ℕ) → ((d : ℕ) → has d ds ≡ true → p d ≡ true)
-        → (w : Walk) → Only w → Only (each go ds w)
-    unfolding each
-    each-only go h [] f w o = o
-    each-only go h (s ∷ ds) f w o = each-only go h ds (λ d e. f d (second d s ds e)) (go s w) (h s w (f s (first s ds)) o)
-
-    walk-only : (k s : ℕ) (w : Walk) → p s ≡ true → Only w → Only (walk k deps s w)
-    unfolding walk down
-    walk-only zero s w e o = o
-    walk-only (suc k) s w e o = go (isVisited w s) (walk-only k)
-      where
-        go : (b : Bool) → ((s : ℕ) (w : Walk) → p s ≡ true → Only w → Only (walk k deps s w)) → Only (cond b w (down (walk k deps) deps s w))
-        go true h = o
-        go false h = each-only (walk k deps) h (deps s) (depend s) (mark s w) (mark-only s w e o)
+      ∙ f x (has-later x s ss e)))
 
   -- inputs first, then a walk from the others: each of them once, and nothing else
   module _ (inputs others : List ℕ) (once : OnceAfter [] inputs) (small : (x : ℕ) → (has x inputs || has x others) ≡ true → x < n)
@@ -118,12 +73,19 @@ module _ (n : ℕ) (deps : ℕ → List ℕ) where
     unfolding walkFrom
     second-part = each-went n deps n (walk n deps) (walk-went n deps n) others w₁ (first-part .inv) (omega (arith, first-part .goes .fewer, count-replicate n))
 
-    only-these : Only p depend w₂
+    -- nothing else is visited
+    abbrev P : ℕ → Type 0
+    P x = p x ≡ true
+
+    closed : (s : ℕ) → P s → All P (deps s)
+    closed s e = all-has P (deps s) (depend s)
+
+    only-these : Only deps P closed w₂
     unfolding walkFrom
     only-these =
-        each-only p depend (walk n deps) (walk-only p depend n) others (λ d e. or-right (has d inputs) (has d others) e) w₁
-        (each-only p depend emit (λ s w e o. mark-only p depend s w e o) inputs (λ d e. or-left (has d inputs) (has d others) e) (fresh n)
-        (λ x l v. never v (fresh-new n deps x l)))
+        each-only deps P closed (walk n deps) (walk-only deps P closed n) others (all-has P others (λ d e. or-right (has d inputs) (has d others) e)) w₁
+        (each-only deps P closed emit (mark-only deps P closed) inputs (all-has P inputs (λ d e. or-left (has d inputs) (has d others) e)) (fresh n)
+        (λ x v. never v (getD-same n x false)))
 
     pub walked-once : OnceAfter [] (w₂ .result)
     walked-once = second-part .inv .once
@@ -137,26 +99,10 @@ module _ (n : ℕ) (deps : ℕ → List ℕ) where
     walked-all x = either (p x)
         (λ e. goes-on (fresh n) w₁ w₂ (first-part .goes) (second-part .goes) .closed x (fresh-new n deps x (small x e)) (reached x e) ∙ sym e)
         (λ e. either (has x (w₂ .result))
-        (λ g. never (only-these x (second-part .inv .small x g) (second-part .inv .known x g)) e)
+        (λ g. never (only-these x (getD-any (w₂ .visited) x false true (omega (arith, second-part .inv .small x g, second-part .inv .wide)) ∙ second-part .inv .known x g)) e)
         (λ g. g ∙ sym e))
 
 -- those of a list that is once are once
-has-those : (q : ℕ → Bool) (xs : List ℕ) (x : ℕ) → has x (those q xs) ≡ (has x xs && q x)
-unfolding has those
-has-those q [] x = refl
-has-those q (y ∷ xs) x = go (eqb x y) refl (q y) refl (has-those q xs x)
-  where
-    go : (e : Bool) → eqb x y ≡ e → (t : Bool) → q y ≡ t → has x (those q xs) ≡ (has x xs && q x)
-        → has x (cond t (y ∷ those q xs) (those q xs)) ≡ ((e || has x xs) && q x)
-    go true e true g ih = ap (λ b. b || has x (those q xs)) e ∙ sym (ap q (eqb-true x y e) ∙ g)
-    go true e false g ih = ih ∙ both (has x xs) (q x) (ap q (eqb-true x y e) ∙ g) ∙ sym (ap q (eqb-true x y e) ∙ g)
-      where
-        both : (a b : Bool) → b ≡ false → (a && b) ≡ false
-        both true b f = f
-        both false b f = refl
-    go false e true g ih = ap (λ b. b || has x (those q xs)) e ∙ ih
-    go false e false g ih = ih
-
 once-those : (q : ℕ → Bool) (before before′ xs : List ℕ) → ((x : ℕ) → has x before ≡ false → has x before′ ≡ false) → OnceAfter before xs
     → OnceAfter before′ (those q xs)
 unfolding OnceAfter those
@@ -164,22 +110,15 @@ once-those q before before′ [] f o = tt
 once-those q before before′ (y ∷ xs) f o = go (q y) (λ b g. once-those q (before ++ (y ∷ [])) b xs g (o .1))
   where
     not-before : (x : ℕ) → has x (before ++ (y ∷ [])) ≡ false → has x before ≡ false
-    not-before x e = either (has x before) (λ g. never (has-append x before (y ∷ []) ∙ or-left (has x before) _ g) e) (λ g. g)
+    not-before x e = either (has x before) (λ g. never (has-snoc-old x before y g) e) (λ g. g)
 
     not-y : (x : ℕ) → has x (before ++ (y ∷ [])) ≡ false → x ≡ y → ⊥
-    not-y x e g = true≢false (sym (ap (λ z. has z (before ++ (y ∷ []))) g ∙ has-snoc-same before y) ∙ e)
+    not-y x e g = never (ap (λ z. has z (before ++ (y ∷ []))) g ∙ has-snoc-same before y) e
 
     go : (t : Bool) → ((b : List ℕ) → ((x : ℕ) → has x (before ++ (y ∷ [])) ≡ false → has x b ≡ false) → OnceAfter b (those q xs))
         → OnceAfter before′ (cond t (y ∷ those q xs) (those q xs))
     go true ih = (f y (o .0), ih (before′ ++ (y ∷ [])) (λ x e. has-snoc-other x before′ y (not-y x e) ∙ f x (not-before x e)))
     go false ih = ih before′ (λ x e. f x (not-before x e))
-
-slots-small : (n s : ℕ) → has s (slots n) ≡ true → s < n
-unfolding tabulate has
-slots-small zero s h = absurd (false≢true h)
-slots-small (suc n) s h =
-    let ih : has s (slots n) ≡ true → s < n = slots-small n s in
-    has-snoc s (slots n) n h (λ e. omega (arith, e)) (λ e. let l : s < n = ih e in omega arith)
 
 slots-once : (n : ℕ) → OnceAfter [] (slots n)
 unfolding tabulate OnceAfter
@@ -208,27 +147,11 @@ module _ (d : Netlist) (sizes : length (d .bits) ≡ length (d .cells)) where
   starts-small : (x : ℕ) → has x starts ≡ true → x < length (d .cells)
   unfolding iterCells
   starts-small x h =
-      omega (arith, sizes, slots-small (length (d .bits)) x (and-first (has x (slots (length (d .bits)))) _ (sym (has-those (λ s. eqb (getD (d .bits) s 0) 0) (slots (length (d .bits))) x) ∙ h)))
-    where
-      and-first : (a b : Bool) → (a && b) ≡ true → a ≡ true
-      and-first true b e = refl
-      and-first false b e = absurd (false≢true e)
-
-  -- an input is no output
-  in-not-out : (c : Cell) → isInput c ≡ true → isOutput c ≡ false
-  in-not-out (Input l) e = refl
-  in-not-out (Output a l) e = absurd (false≢true e)
-  in-not-out (Buf a) e = absurd (false≢true e)
-  in-not-out (Not a) e = absurd (false≢true e)
-  in-not-out (And a b) e = absurd (false≢true e)
-  in-not-out (Or a b) e = absurd (false≢true e)
-  in-not-out (Xor a b) e = absurd (false≢true e)
-  in-not-out (Mux a b c) e = absurd (false≢true e)
-  in-not-out (Aig p q) e = absurd (false≢true e)
+      omega (arith, sizes, slots-small (length (d .bits)) x (those-has (λ s. eqb (getD (d .bits) s 0) 0) (slots (length (d .bits))) x h))
 
   parts : (x : ℕ) → ((has x inputs || has x others) ≡ (has x starts && not (isOutput (cellIn (d .cells) x)))) × (has x outputs ≡ (has x starts && isOutput (cellIn (d .cells) x)))
   parts x = (
-    go (has x starts) (isInput (cellIn (d .cells) x)) (isOutput (cellIn (d .cells) x)) (in-not-out (cellIn (d .cells) x))
+    go (has x starts) (isInput (cellIn (d .cells) x)) (isOutput (cellIn (d .cells) x)) (input-no-output (cellIn (d .cells) x))
         (has x inputs) (has x others) (has-those (λ s. isInput (cellIn (d .cells) s)) starts x) (has-those (λ s. not (isOutput (cellIn (d .cells) s))) starts x),
     has-those (λ s. isOutput (cellIn (d .cells) s)) starts x,
   )
@@ -246,11 +169,7 @@ module _ (d : Netlist) (sizes : length (d .bits) ≡ length (d .cells)) where
     reachable x = has x inputs || has x others
 
     reachable-small : (x : ℕ) → reachable x ≡ true → x < length (d .cells)
-    reachable-small x e = starts-small x (go (has x starts) _ (sym (parts x .0) ∙ e))
-      where
-        go : (a b : Bool) → (a && b) ≡ true → a ≡ true
-        go true b e = refl
-        go false b e = absurd (false≢true e)
+    reachable-small x e = starts-small x (and-both (has x starts) _ (sym (parts x .0) ∙ e) .0)
 
     inputs-once : OnceAfter [] inputs
     inputs-once = once-those (λ s. isInput (cellIn (d .cells) s)) [] [] starts (λ x e. e) starts-once

@@ -1,132 +1,96 @@
--- The bits that a bit depends on are ends of its combinational edges, so a rank that falls along edges falls along them. Assumes nothing.
-use mathlib.Core.Path.{_≡_, refl, sym, ap, _∙_, subst}
-use mathlib.Core.Bool.{Bool, true, false, cond, not, _||_, true≢false, false≢true}
-use mathlib.Core.List.{List, [], _∷_, _++_, map}
-use Prim.Native.Nat.{ℕ, zero, suc, _+_, _/_, _%_, _≤_, _<_}
+-- The operands of a cell by the fields of its record, and the combinational edges that they are. Assumes nothing.
+use mathlib.Core.Path.{_≡_, refl, sym, subst}
+use mathlib.Core.Bool.{true, false≢true, Bool, false, cond}
+use mathlib.Core.Logic.{⊎-elim}
+use Prim.Native.Nat.{ℕ, zero, suc, _/_, _%_, _-_}
 use native.Mathlib.Omega.{arith}
-use lib.Dec.{eqb, ltb}
-use lib.ListN.{length, getD, length-map, List·getD-eq-default}
-use borrow.Author.Tests.{eqb-true, ltb-true, ltb-false}
+use lib.Dec.{eqb}
 use Rattle.value.specs.declared.Net.{Net}
 use Rattle.value.specs.declared.Driver.{Driver}
 use Rattle.value.specs.declared.Driver.the-variants as driven
-use Rattle.value.specs.Value.{netAt, slotAt, driver, net, fromNetInvert}
+use Rattle.value.specs.Value.{netAt, driver}
+use Rattle.value.specs.declared.Slot.{Slot}
+use Rattle.value.proofs.Laws.{net-of}
 use Rattle.cell.specs.declared.Record.{Record}
-use Rattle.cell.specs.declared.Edge.{Edge}
-use Rattle.cell.specs.declared.Edge.the-variants.{To, Nowhere}
 use Rattle.cell.specs.declared.Cell.{Cell}
-use Rattle.cell.specs.declared.Cell.the-variants.{Input}
+use Rattle.cell.specs.declared.Cell.the-variants.{Input, Output, Buf, Not, And, Or, Xor, Mux, Aig}
 use Rattle.cell.specs.Kinds.{kindOf, fieldOf, useOf, isOperand, isCombEdge, edgeOf, edgeAt}
-use Rattle.cell.specs.Records.{recordOf, recordIn, cellOf}
-use Rattle.netlist.specs.Shape.{visit, isInput}
-use Rattle.netlist.specs.Netlist.{cellIn, those, joined, drivenBy, sources}
-use Rattle.order.specs.Orders.{bitDeps, topoSort}
-use Rattle.order_laws.specs.Ordered.{has, FedAfter}
-use Rattle.order_laws.proofs.Walks.{either, or-none, has-append}
-use Rattle.order_laws.proofs.Bits.{topoSort-fed}
+use Rattle.cell.specs.Records.{recordOf, cellOf, cellRecord}
+use Rattle.cell.specs.declared.Edge.the-variants.{To, Nowhere}
+use Rattle.cell.proofs.RoundTrips.{cell-back}
+use Rattle.loops.proofs.Edges.{edge-field}
+use Rattle.netlist.specs.Shape.{visit}
+use Rattle.order_laws.specs.Members.{All, Drives}
+use Rattle.order_laws.proofs.Sorts.{kind-known}
 
--- the one slot that drives a net
-driven-edge : (d : ℕ) (x : Driver) → has d (drivenBy x) ≡ true → edgeOf x ≡ To (slotAt d)
-unfolding has
-driven-edge d (driven.Const t) h = absurd (false≢true h)
-driven-edge d (driven.Cell s) h = either (eqb d (s .0))
-    (λ e. let p : s .0 ≡ d = sym (eqb-true d (s .0) e) in λ i. To (slotAt (p i)))
-    (λ e. absurd (false≢true (sym (or-none (eqb d (s .0)) false e) ∙ h)))
+-- what is said of each operand field of a record is said of each operand of its cell
+abbrev pub FieldHas : (Net → Type 0) → Record → ℕ → Type 0
+FieldHas P r f = isOperand r f ≡ true → P (netAt (fieldOf r f))
 
-by-append : {A : Type 0} (d : ℕ) (xs ys : List ℕ) → has d (xs ++ ys) ≡ true → (has d xs ≡ true → A) → (has d ys ≡ true → A) → A
-by-append d xs ys h f g = either (has d xs) f (λ e. g (sym (or-none (has d xs) (has d ys) e) ∙ sym (has-append d xs ys) ∙ h))
+read-by : (P : Net → Type 0) (k flags bit a b c : ℕ) → kindOf k .known ≡ true → ((f : ℕ) → FieldHas P (recordOf k flags bit a b c) f)
+    → All P (visit (cellOf (recordOf k flags bit a b c)))
+unfolding All kindOf cellOf visit isOperand useOf fieldOf
+read-by P zero flags bit a b c known h = absurd (false≢true known)
+read-by P (suc zero) flags bit a b c known h = tt
+read-by P (suc (suc zero)) flags bit a b c known h = (h 1 refl, tt)
+read-by P (suc (suc (suc zero))) flags bit a b c known h = (h 1 refl, tt)
+read-by P (suc (suc (suc (suc zero)))) flags bit a b c known h = (h 1 refl, tt)
+read-by P (suc (suc (suc (suc (suc zero))))) flags bit a b c known h = (h 1 refl, (h 2 refl, tt))
+read-by P (suc (suc (suc (suc (suc (suc zero)))))) flags bit a b c known h = (h 1 refl, (h 2 refl, tt))
+read-by P (suc (suc (suc (suc (suc (suc (suc zero))))))) flags bit a b c known h = (h 1 refl, (h 2 refl, tt))
+read-by P (suc (suc (suc (suc (suc (suc (suc (suc zero)))))))) flags bit a b c known h = (h 1 refl, (h 2 refl, (h 3 refl, tt)))
+read-by P (suc (suc (suc (suc (suc (suc (suc (suc (suc zero))))))))) flags bit a b c known h = (
+  subst P (sym (net-of (netAt a) (eqb (flags % 2) 1))) (h 1 refl),
+  (subst P (sym (net-of (netAt b) (eqb (flags / 2 % 2) 1))) (h 2 refl), tt),
+)
+read-by P (suc (suc (suc (suc (suc (suc (suc (suc (suc (suc k)))))))))) flags bit a b c known h = absurd (false≢true known)
 
--- an edge leads to d
-abbrev pub LeadsTo : Record → ℕ → Type 0
-LeadsTo r d = (f : ℕ) × (edgeAt r f ≡ To (slotAt d))
+pub operands-by : (P : Net → Type 0) (r : Record) → kindOf (r .kind) .known ≡ true → ((f : ℕ) → FieldHas P r f) → All P (visit (cellOf r))
+operands-by P r = read-by P (r .kind) (r .flags) (r .bit) (r .a) (r .b) (r .c)
 
-module _ (d : ℕ) where
-  none-of : {A : Type 0} → has d [] ≡ true → A
-  unfolding has
-  none-of h = absurd (false≢true h)
+pub operands-have : (P : Net → Type 0) (bit : ℕ) (c : Cell) → ((f : ℕ) → FieldHas P (cellRecord bit c) f) → All P (visit c)
+operands-have P bit c h = subst (λ (x : Cell). All P (visit x)) (cell-back bit c) (operands-by P (cellRecord bit c) (kind-known bit c) h)
 
-  net-inverted : (n : Net) (b : Bool) → net (fromNetInvert n b) ≡ n
-  net-inverted n true = refl
-  net-inverted n false = refl
+-- what is said of each operand of a cell is said of each operand field of its record
+clash : {A : Type 0} → false ≡ true → A
+clash e = absurd (false≢true e)
 
-  -- of one, two and three operands
-  one-of : {A : Type 0} (x : Net) → has d (sources (x ∷ [])) ≡ true → (edgeOf (driver x) ≡ To (slotAt d) → A) → A
-  unfolding sources joined
-  one-of x h f = by-append d (drivenBy (driver x)) [] h (λ e. f (driven-edge d (driver x) e)) none-of
+pub fields-have : (P : Net → Type 0) (bit : ℕ) (c : Cell) → All P (visit c)
+    → FieldHas P (cellRecord bit c) 1 × FieldHas P (cellRecord bit c) 2 × FieldHas P (cellRecord bit c) 3
+unfolding All visit cellRecord isOperand fieldOf useOf kindOf
+fields-have P bit (Input l) h = (clash, clash, clash)
+fields-have P bit (Output a l) h = ((λ e. h .0), clash, clash)
+fields-have P bit (Buf a) h = ((λ e. h .0), clash, clash)
+fields-have P bit (Not a) h = ((λ e. h .0), clash, clash)
+fields-have P bit (And a b) h = ((λ e. h .0), (λ e. h .1 .0), clash)
+fields-have P bit (Or a b) h = ((λ e. h .0), (λ e. h .1 .0), clash)
+fields-have P bit (Xor a b) h = ((λ e. h .0), (λ e. h .1 .0), clash)
+fields-have P bit (Mux a b c) h = ((λ e. h .0), (λ e. h .1 .0), (λ e. h .1 .1 .0))
+fields-have P bit (Aig p q) h = ((λ e. h .0), (λ e. h .1 .0), clash)
 
-  two-of : {A : Type 0} (x y : Net) → has d (sources (x ∷ y ∷ [])) ≡ true → (edgeOf (driver x) ≡ To (slotAt d) → A) → (edgeOf (driver y) ≡ To (slotAt d) → A) → A
-  unfolding sources joined
-  two-of x y h f g =
-      by-append d (drivenBy (driver x)) (drivenBy (driver y) ++ []) h (λ e. f (driven-edge d (driver x) e)) (λ k. one-of y k g)
+-- an edge by a field whose operand a slot drives
+pub edge-to : (r : Record) (f : ℕ) (x : Slot) → isOperand r f ≡ true → driver (netAt (fieldOf r f)) ≡ driven.Cell x → edgeAt r f ≡ To x
+unfolding edgeAt isCombEdge
+edge-to r f x e d = rw (e, d)
 
-  three-of : {A : Type 0} (x y z : Net) → has d (sources (x ∷ y ∷ z ∷ [])) ≡ true → (edgeOf (driver x) ≡ To (slotAt d) → A) → (edgeOf (driver y) ≡ To (slotAt d) → A)
-      → (edgeOf (driver z) ≡ To (slotAt d) → A) → A
-  unfolding sources joined
-  three-of x y z h f g k =
-      by-append d (drivenBy (driver x)) (drivenBy (driver y) ++ (drivenBy (driver z) ++ [])) h (λ e. f (driven-edge d (driver x) e)) (λ l. two-of y z l g k)
-
-  edges-of : (k flags bit a b c : ℕ) → kindOf k .known ≡ true → has d (sources (visit (cellOf (recordOf k flags bit a b c)))) ≡ true
-      → LeadsTo (recordOf k flags bit a b c) d
-  unfolding kindOf cellOf visit edgeAt isCombEdge isOperand useOf fieldOf sources joined
-  edges-of zero flags bit a b c known h = absurd (false≢true known)
-  edges-of (suc zero) flags bit a b c known h = none-of h
-  edges-of (suc (suc zero)) flags bit a b c known h = one-of (netAt a) h (λ e. (1, e))
-  edges-of (suc (suc (suc zero))) flags bit a b c known h = one-of (netAt a) h (λ e. (1, e))
-  edges-of (suc (suc (suc (suc zero)))) flags bit a b c known h = one-of (netAt a) h (λ e. (1, e))
-  edges-of (suc (suc (suc (suc (suc zero))))) flags bit a b c known h = two-of (netAt a) (netAt b) h (λ e. (1, e)) (λ e. (2, e))
-  edges-of (suc (suc (suc (suc (suc (suc zero)))))) flags bit a b c known h = two-of (netAt a) (netAt b) h (λ e. (1, e)) (λ e. (2, e))
-  edges-of (suc (suc (suc (suc (suc (suc (suc zero))))))) flags bit a b c known h = two-of (netAt a) (netAt b) h (λ e. (1, e)) (λ e. (2, e))
-  edges-of (suc (suc (suc (suc (suc (suc (suc (suc zero)))))))) flags bit a b c known h =
-      three-of (netAt a) (netAt b) (netAt c) h (λ e. (1, e)) (λ e. (2, e)) (λ e. (3, e))
-  edges-of (suc (suc (suc (suc (suc (suc (suc (suc (suc zero))))))))) flags bit a b c known h =
-      two-of (netAt a) (netAt b)
-      (subst (λ x. has d (sources (x ∷ netAt b ∷ [])) ≡ true) (net-inverted (netAt a) (eqb (flags % 2) 1))
-      (subst (λ y. has d (sources (net (fromNetInvert (netAt a) (eqb (flags % 2) 1)) ∷ y ∷ [])) ≡ true) (net-inverted (netAt b) (eqb (flags / 2 % 2) 1)) h))
-      (λ e. (1, e)) (λ e. (2, e))
-  edges-of (suc (suc (suc (suc (suc (suc (suc (suc (suc (suc k)))))))))) flags bit a b c known h = absurd (false≢true known)
-
-  has-those : (p : ℕ → Bool) (xs : List ℕ) → has d (those p xs) ≡ true → has d xs ≡ true
-  unfolding those has
-  has-those p [] h = h
-  has-those p (x ∷ xs) h = go (p x) h (has-those p xs)
-    where
-      go : (b : Bool) → has d (cond b (x ∷ those p xs) (those p xs)) ≡ true → (has d (those p xs) ≡ true → has d xs ≡ true) → (eqb d x || has d xs) ≡ true
-      go true k ih = it (eqb d x) k
-        where
-          it : (t : Bool) → (t || has d (those p xs)) ≡ true → (t || has d xs) ≡ true
-          it true e = refl
-          it false e = ih e
-      go false k ih = it (eqb d x)
-        where
-          it : (t : Bool) → (t || has d xs) ≡ true
-          it true = refl
-          it false = ih k
-
-pub getD-map-cells : (rs : List Record) (s : ℕ) → s < length rs → cellIn (map cellOf rs) s ≡ cellOf (recordIn rs s)
-getD-map-cells [] s l = absurd (omega arith)
-getD-map-cells (r ∷ rs) zero l = refl
-getD-map-cells (r ∷ rs) (suc s) l = getD-map-cells rs s (omega arith)
-
-nothing-read : {A : Type 0} (d : ℕ) → has d (sources (visit (Input 0))) ≡ true → A
-unfolding has sources joined visit
-nothing-read d h = absurd (false≢true h)
-
--- where every kind is known, what a bit depends on is the end of an edge
-pub deps-are-edges : (rs : List Record) → ((s : ℕ) → s < length rs → kindOf (recordIn rs s .kind) .known ≡ true) → (s d : ℕ)
-    → has d (bitDeps (map cellOf rs) s) ≡ true → LeadsTo (recordIn rs s) d
-unfolding bitDeps
-deps-are-edges rs known s d h = either (ltb s (length rs))
-    (λ e. let l : s < length rs = ltb-true s (length rs) e in
-    let r : Record = recordIn rs s in
-    edges-of d (r .kind) (r .flags) (r .bit) (r .a) (r .b) (r .c) (known s l) (rw (getD-map-cells rs s l) at sources-has))
-    (λ e. nothing-read d (rw (List·getD-eq-default (map cellOf rs) (Input 0) {n = s} (omega (arith, length-map rs cellOf, ltb-false s (length rs) e))) at sources-has))
+-- and the operand in the field by which an edge leads on
+pub edge-from : (r : Record) (f : ℕ) (x : Slot) → edgeAt r f ≡ To x → (isOperand r f ≡ true) × (driver (netAt (fieldOf r f)) ≡ driven.Cell x)
+unfolding edgeAt isCombEdge
+edge-from r f x e = go (isOperand r f) (driver (netAt (fieldOf r f))) refl refl e
   where
-    sources-has : has d (sources (visit (cellIn (map cellOf rs) s))) ≡ true
-    sources-has = has-those d (λ x. not (isInput (cellIn (map cellOf rs) x))) (sources (visit (cellIn (map cellOf rs) s))) h
+    go : (b : Bool) (d : Driver) → isOperand r f ≡ b → driver (netAt (fieldOf r f)) ≡ d → cond b (edgeOf d) Nowhere ≡ To x
+        → (isOperand r f ≡ true) × (driver (netAt (fieldOf r f)) ≡ driven.Cell x)
+    go false d p q e = let z : _≡_ {A = ℕ} 0 1 = cc in absurd (omega arith)
+    go true (driven.Const t) p q e = let z : _≡_ {A = ℕ} 0 1 = cc in absurd (omega arith)
+    go true (driven.Cell y) p q e = (p, cc)
 
--- the law for a ticket's records: a rank that falls along edges puts operands before readers
-pub records-fed : (rs : List Record) (rank : ℕ → ℕ) → ((s : ℕ) → s < length rs → kindOf (recordIn rs s .kind) .known ≡ true)
-    → ((s f d : ℕ) → edgeAt (recordIn rs s) f ≡ To (slotAt d) → rank d < rank s)
-    → FedAfter (length (map cellOf rs)) (bitDeps (map cellOf rs)) [] (topoSort (map cellOf rs))
-records-fed rs rank known falls =
-    topoSort-fed (map cellOf rs) rank (λ s d h. let l : LeadsTo (recordIn rs s) d = deps-are-edges rs known s d h in falls s (l .0) d (l .1))
+module _ (Q : ℕ → Type 0) (bit : ℕ) (c : Cell) where
+  pub edges-have : All (Drives Q) (visit c) → (f : ℕ) (x : Slot) → edgeAt (cellRecord bit c) f ≡ To x → Q (x .0)
+  edges-have h f x e =
+      let g = fields-have (Drives Q) bit c h in
+      let at : (k : ℕ) → FieldHas (Drives Q) (cellRecord bit c) k → f ≡ k → Q (x .0) =
+      λ k p q. let d = edge-from (cellRecord bit c) k x (subst (λ (j : ℕ). edgeAt (cellRecord bit c) j ≡ To x) q e) in p (d .0) x (d .1) in
+      ⊎-elim (at 1 (g .0)) (⊎-elim (at 2 (g .1)) (at 3 (g .2))) (edge-field (cellRecord bit c) f x e)
+
+  pub have-edges : ((f : ℕ) (x : Slot) → edgeAt (cellRecord bit c) f ≡ To x → Q (x .0)) → All (Drives Q) (visit c)
+  have-edges h = operands-have (Drives Q) bit c (λ f e x d. h f x (edge-to (cellRecord bit c) f x e d))

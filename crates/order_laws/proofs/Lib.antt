@@ -1,5 +1,12 @@
+pub mod Truth
+pub mod Members
+pub mod Lists
+pub mod Sorts
+pub mod Operands
+pub mod Edges
+pub mod Queue
 pub mod Walks
 pub mod Closed
 pub mod Bits
-pub mod Edges
 pub mod Cells
+pub mod Accepted

@@ -1,71 +1,28 @@
 -- The walk: each item once, and after what it depends on where a rank falls. Assumes nothing.
 use mathlib.Core.Path.{_≡_, refl, sym, ap, _∙_, subst}
-use mathlib.Core.Bool.{Bool, true, false, cond, _||_, true≢false, false≢true}
+use mathlib.Core.Bool.{Bool, true, false, cond, true≢false, false≢true}
 use mathlib.Core.List.{List, [], _∷_, _++_, append-assoc, append-nil}
-use Prim.Native.Nat.{ℕ, zero, suc, _+_, _≤_, _<_}
+use Prim.Native.Nat.{ℕ, zero, suc, _≤_, _<_}
 use native.Mathlib.Omega.{arith}
-use lib.Dec.{eqb, eqb-refl, T}
-use lib.ListN.{length, getD, set, replicate, length-set, length-replicate, getD-replicate, List·getD-eq-default}
+use lib.Dec.{eqb}
+use lib.ListN.{length, replicate, length-set, length-replicate, getD-replicate}
 use lib.Seq.{getD-set-same, getD-set-other}
 use borrow.Author.Tests.{eqb-true, eqb-false}
-use native.Mathlib.Decide.{ℕ-discrete}
-use Rattle.order.specs.Walk.{Walk, isVisited, mark, push, each, down, enter, walk, countFalse, unvisited, fresh, walkFrom}
+use Rattle.order.specs.Walk.{Walk, isVisited, mark, push, each, down, walk, countFalse, unvisited, fresh, walkFrom}
+use Rattle.order.proofs.Walks.{count-set, inside, walk-there}
 use Rattle.order_laws.specs.Ordered.{has, OnceAfter, FedAfter, Each}
+use Rattle.order_laws.proofs.Truth.{either, or-none}
+use Rattle.order_laws.proofs.Members.{has-first, has-later, has-cons, has-snoc, has-snoc-same, has-snoc-other, has-snoc-old}
+use Rattle.order_laws.proofs.Truth.{never, eqb-self, or-left, or-right}
+use Rattle.order_laws.proofs.Members.{has-append}
 
--- by cases of a truth value
-pub either : {A : Type 0} (b : Bool) → (b ≡ true → A) → (b ≡ false → A) → A
-either true f g = f refl
-either false f g = g refl
-
-pub never : {A : Type 0} {b : Bool} → b ≡ true → b ≡ false → A
-never p q = absurd (true≢false (sym p ∙ q))
-
-pub eqb-self : (n : ℕ) → eqb n n ≡ true
-eqb-self n = either (eqb n n) (λ e. e) (λ e. absurd (eqb-false n n e refl))
-
-pub eqb-not : (a b : ℕ) → (a ≡ b → ⊥) → eqb a b ≡ false
-eqb-not a b h = either (eqb a b) (λ e. absurd (h (eqb-true a b e))) (λ e. e)
-
-or-join : (b p q r : Bool) → p ≡ (q || r) → (b || p) ≡ (b || q || r)
-or-join true p q r e = refl
-or-join false p q r e = e
-
-pub or-left : (b c : Bool) → b ≡ true → (b || c) ≡ true
-or-left true c e = refl
-or-left false c e = absurd (false≢true e)
-
-pub or-right : (b c : Bool) → c ≡ true → (b || c) ≡ true
-or-right true c e = refl
-or-right false c e = e
-
-pub or-none : (b c : Bool) → b ≡ false → (b || c) ≡ c
-or-none true c e = absurd (true≢false e)
-or-none false c e = refl
-
--- membership
-pub has-append : (x : ℕ) (ys zs : List ℕ) → has x (ys ++ zs) ≡ (has x ys || has x zs)
-unfolding has
-has-append x [] zs = refl
-has-append x (y ∷ ys) zs = or-join (eqb x y) (has x (ys ++ zs)) (has x ys) (has x zs) (has-append x ys zs)
-
--- one more at the end
-pub has-snoc-same : (ys : List ℕ) (s : ℕ) → has s (ys ++ (s ∷ [])) ≡ true
-unfolding has
-has-snoc-same ys s = has-append s ys (s ∷ []) ∙ or-right (has s ys) _ (or-left (eqb s s) false (eqb-self s))
-
-pub has-snoc-other : (x : ℕ) (ys : List ℕ) (s : ℕ) → (x ≡ s → ⊥) → has x (ys ++ (s ∷ [])) ≡ has x ys
-unfolding has
-has-snoc-other x ys s h = has-append x ys (s ∷ []) ∙ go (has x ys) (eqb x s) (eqb-not x s h)
-  where
-    go : (b c : Bool) → c ≡ false → (b || (c || false)) ≡ b
-    go true c e = refl
-    go false true e = absurd (true≢false e)
-    go false false e = refl
-
--- by cases: the last one, or one before
-pub has-snoc : {A : Type 0} (x : ℕ) (ys : List ℕ) (s : ℕ) → has x (ys ++ (s ∷ [])) ≡ true → (x ≡ s → A) → (has x ys ≡ true → A) → A
-has-snoc x ys s h f g =
-    either (eqb x s) (λ e. f (eqb-true x s e)) (λ e. g (sym (has-snoc-other x ys s (eqb-false x s e)) ∙ h))
+-- what stands before a list of which each is once is not in it
+pub once-not : (before ss : List ℕ) (x : ℕ) → OnceAfter before ss → has x before ≡ true → has x ss ≡ false
+unfolding OnceAfter has
+once-not before [] x o h = refl
+once-not before (s ∷ ss) x o h =
+    either (eqb x s) (λ e. never h (ap (λ y. has y before) (eqb-true x s e) ∙ o .0))
+    (λ e. or-none (eqb x s) (has x ss) e ∙ once-not (before ++ (s ∷ [])) ss x (o .1) (has-snoc-old x before s h))
 
 -- once and fed, with one more at the end
 pub once-snoc : (before xs : List ℕ) (s : ℕ) → OnceAfter before xs → has s (before ++ xs) ≡ false → OnceAfter before (xs ++ (s ∷ []))
@@ -81,31 +38,10 @@ fed-snoc n deps before (x ∷ xs) s o h =
     (o .0, fed-snoc n deps (before ++ (x ∷ [])) xs s (o .1) (λ d e l. rw (append-assoc before (x ∷ []) xs) (h d e l)))
 
 -- the count of unvisited items
-count-set : (l : List Bool) (s : ℕ) → getD l s true ≡ false → suc (countFalse (set l s true)) ≡ countFalse l
-unfolding countFalse
-count-set [] s e = absurd (true≢false e)
-count-set (true ∷ l) zero e = absurd (true≢false e)
-count-set (false ∷ l) zero e = refl
-count-set (true ∷ l) (suc s) e = count-set l s e
-count-set (false ∷ l) (suc s) e = ap suc (count-set l s e)
-
-none-left : (l : List Bool) (s : ℕ) → countFalse l ≤ 0 → getD l s true ≡ true
-unfolding countFalse
-none-left [] s h = refl
-none-left (true ∷ l) zero h = refl
-none-left (false ∷ l) zero h = absurd (omega arith)
-none-left (true ∷ l) (suc s) h = none-left l s h
-none-left (false ∷ l) (suc s) h = absurd (omega arith)
-
 pub count-replicate : (n : ℕ) → countFalse (replicate n false) ≤ n
 unfolding countFalse
 count-replicate zero = omega arith
 count-replicate (suc n) = let h : countFalse (replicate n false) ≤ n = count-replicate n in omega arith
-
-inside : (l : List Bool) (s : ℕ) → getD l s true ≡ false → s < length l
-inside [] s e = absurd (true≢false e)
-inside (b ∷ l) zero e = omega arith
-inside (b ∷ l) (suc s) e = let h : s < length l = inside l s e in omega arith
 
 pub record Inv (n : ℕ) (w : Walk) : Type 0 where
   pub wide : length (w .visited) ≡ n
@@ -142,20 +78,25 @@ module _ (n : ℕ) (deps : ℕ → List ℕ) where
     pub goes : Goes w w′
     pub there : (d : ℕ) → has d ds ≡ true → isVisited w′ d ≡ true
 
+  -- one item, then the others
+  pub went-then : (s : ℕ) (ds : List ℕ) (w w₁ w₂ : Walk) → Went s w w₁ → WentAll ds w₁ w₂ → WentAll (s ∷ ds) w w₂
+  went-then s ds w w₁ w₂ a b = record {
+    inv = b .inv;
+    goes = goes-on w w₁ w₂ (a .goes) (b .goes);
+    there = λ d e. has-cons d s ds e (λ q. b .goes .grown d (ap (isVisited w₁) q ∙ a .there)) (b .there d);
+  }
+
+  pub went-none : (w : Walk) → Inv n w → WentAll [] w w
+  unfolding has
+  went-none w i = record { inv = i; goes = goes-none w; there = λ d e. absurd (false≢true e) }
+
   pub each-went : (k : ℕ) (go : ℕ → Walk → Walk) → ((s : ℕ) (w : Walk) → Inv n w → unvisited w ≤ k → Went s w (go s w))
       → (ds : List ℕ) (w : Walk) → Inv n w → unvisited w ≤ k → WentAll ds w (each go ds w)
-  unfolding each has
-  each-went k go h [] w i f = record { inv = i; goes = goes-none w; there = λ d e. absurd (false≢true e) }
+  unfolding each
+  each-went k go h [] w i f = went-none w i
   each-went k go h (s ∷ ds) w i f =
       let a : Went s w (go s w) = h s w i f in
-      let b : WentAll ds (go s w) (each go ds (go s w)) = each-went k go h ds (go s w) (a .inv) (omega (arith, a .goes .fewer)) in
-      record {
-        inv = b .inv;
-        goes = goes-on w (go s w) (each go ds (go s w)) (a .goes) (b .goes);
-        there = λ d e. either (eqb d s)
-            (λ g. b .goes .grown d (subst (λ x. isVisited (go s w) x ≡ true) (sym (eqb-true d s g)) (a .there)))
-            (λ g. b .there d (sym (or-none (eqb d s) (has d ds) g) ∙ e));
-      }
+      went-then s ds w (go s w) (each go ds (go s w)) a (each-went k go h ds (go s w) (a .inv) (omega (arith, a .goes .fewer)))
 
   -- an unvisited item: marked, then what it depends on, then itself
   module _ (s : ℕ) (w w₂ : Walk) (i : Inv n w) (new : isVisited w s ≡ false) (inv₂ : Inv n w₂) (goes₂ : Goes (mark s w) w₂) where
@@ -212,7 +153,7 @@ module _ (n : ℕ) (deps : ℕ → List ℕ) where
 
   pub walk-went : (k s : ℕ) (w : Walk) → Inv n w → unvisited w ≤ k → Went s w (walk k deps s w)
   unfolding walk down
-  walk-went zero s w i f = record { inv = i; goes = goes-none w; there = none-left (w .visited) s f }
+  walk-went zero s w i f = record { inv = i; goes = goes-none w; there = walk-there deps zero s w f }
   walk-went (suc k) s w i f = go (isVisited w s) refl (walk-went k)
     where
       go : (b : Bool) → isVisited w s ≡ b → ((s : ℕ) (w : Walk) → Inv n w → unvisited w ≤ k → Went s w (walk k deps s w))
@@ -244,8 +185,8 @@ module _ (n : ℕ) (deps : ℕ → List ℕ) where
     each-fed k go h hf (s ∷ ds) w i f a o =
         let b : Went s w (go s w) = h s w i f in
         each-fed k go h hf ds (go s w) (b .inv) (omega (arith, b .goes .fewer))
-        (λ d e. above-kept w (go s w) d (b .goes) (a d (or-right (eqb d s) (has d ds) e)))
-        (hf s w i f (a s (or-left (eqb s s) (has s ds) (eqb-self s))) o)
+        (λ d e. above-kept w (go s w) d (b .goes) (a d (has-later d s ds e)))
+        (hf s w i f (a s (has-first s ds)) o)
 
     mark-above : (s : ℕ) (w : Walk) → isVisited w s ≡ false → Above w s → (d : ℕ) → has d (deps s) ≡ true → Above (mark s w) d
     mark-above s w new a d e i l v h =

@@ -1,42 +1,31 @@
 -- ONE REWRITING IS ENOUGH: the statement of specs/Repeat.antt, for every ticket without and-inverters. Assumes nothing.
-use mathlib.Core.Path.{_≡_, refl, sym, ap, ap₂, _∙_}
-use mathlib.Core.Bool.{Bool}
+use mathlib.Core.Path.{_≡_, sym, ap, _∙_}
 use mathlib.Core.List.{List}
 use Prim.Native.Nat.{ℕ, _≤_}
 use native.Mathlib.Omega.{arith}
-use lib.ListN.{length, take, drop}
-use lib.Seq.{take-append-seam}
+use lib.ListN.{length}
 use borrow.Author.Tests.{ltb-false}
 use Rattle.cell.specs.Records.{recordsOf}
+use Rattle.loops.proofs.Rank.{rank}
+use Rattle.checking.specs.declared.Verdict.{Verdict}
+use Rattle.checking.specs.declared.Verdict.the-variants.{Pass}
+use Rattle.checking.specs.Checking.{checkStages}
+use Rattle.checking.proofs.Stages.{passes-both, passed-exactly}
 use Rattle.netlist.specs.Netlist.{Netlist}
 use Rattle.design.specs.Queue.{findNewCell}
 use Rattle.merge.specs.Merge.{merge}
-use Rattle.loops.proofs.Rank.{rank}
 use Rattle.rewrite.specs.Rewrite.{slotsOf, rewrite}
-use Rattle.checking.specs.declared.Verdict.{Verdict}
-use Rattle.checking.specs.declared.Verdict.the-variants.{Pass, Refused}
-use Rattle.checking.specs.Checking.{checkStages}
-use Rattle.checking.proofs.Stages.{passes-both, passed-exactly}
-use Rattle.calls.specs.declared.Written.the-variants as written
-use Rattle.calls.specs.declared.Merged.the-variants as merged
-use Rattle.calls.specs.Answers.{mergedBy}
-use Rattle.calls.specs.Calls.{put, decoded, replyAfter, checkVerdict, mergeBytes, mergeVerdict, mergeAnswer, mergeReply, rewriteRun, rewriteBytes, rewriteStages, rewriteVerdict, rewriteAnswer, rewriteReply}
+use Rattle.calls.specs.Calls.{decoded, checkVerdict, mergeBytes, mergeVerdict, mergeAnswer, mergeReply, rewriteRun, rewriteBytes, rewriteStages, rewriteVerdict, rewriteAnswer, rewriteReply}
 use Rattle.kept.specs.Kept.{Bytes}
 use Rattle.kept.proofs.Sound.{Sound}
 use Rattle.kept.proofs.Tickets.{ticket-sound}
-use Rattle.kept.proofs.Calls.{ticket-labelled, written-count}
+use Rattle.kept.proofs.Calls.{ticket-labelled, written-count, merged-count, written-first}
 use Rattle.rewrite_sound.proofs.Result.{Ran, rewrite-ranks, rewrite-shorter, rewrite-labelled}
 use Rattle.rewrite_sound.proofs.Calls.{rust-runs, ticket-ran}
 use Rattle.rewrite_normal.proofs.Result.{rewrite-normal}
 use Rattle.repeat.specs.Repeat.{NoAndInverter, Rewriting, Merging, MergingKeeps, OneIsEnough}
 use Rattle.repeat.proofs.Plain.{ticket-plain}
 use Rattle.repeat.proofs.Results.{Result, merge-bytes, merge-answers, next-answers, next-result, next-pairs, next-records}
-
--- what is written and what was in the reply behind it
-written-first : (v : Verdict) (reply bytes : List ℕ) (n : ℕ) → v ≡ Pass → n ≡ length bytes → take n (replyAfter v reply bytes) ≡ bytes
-unfolding put
-written-first v reply bytes n e q =
-    ap₂ (λ (k : ℕ) (w : Verdict). take k (replyAfter w reply bytes)) q e ∙ take-append-seam bytes (drop (length bytes) reply)
 
 -- an accepted call: the ticket passed, within 1,024 slots, and the result is what was to be written
 module _ (t u : List ℕ) (call : Rewriting t u) where
@@ -45,7 +34,7 @@ module _ (t u : List ℕ) (call : Rewriting t u) where
 
   passed : (verdict ≡ Pass) × (call .count ≡ length (rewriteBytes findNewCell t))
   unfolding rewriteAnswer
-  passed = written-count (call .words) t (call .reply) verdict (length (rewriteBytes findNewCell t)) (call .count) (call .accepted)
+  passed = written-count verdict (length (rewriteBytes findNewCell t)) (call .count) (call .accepted)
 
   result : u ≡ rewriteBytes findNewCell t
   unfolding rewriteReply
@@ -61,10 +50,6 @@ module _ (t u : List ℕ) (call : Rewriting t u) where
       let stages = rewriteStages findNewCell t (call .reply) in
       ltb-false 1024 (slotsOf (rewriteRun findNewCell t))
       (passed-exactly stages .0 (passes-both (checkStages (call .words) t) stages (passed .0) .1) 0 (omega arith))
-
-merged-count : (v : Verdict) (k n : ℕ) (b changed : Bool) → mergedBy v k b ≡ merged.Accepted n changed → (v ≡ Pass) × (n ≡ k)
-merged-count Pass k n b changed e = (refl, cc)
-merged-count (Refused r) k n b changed e = let z : _≡_ {A = ℕ} 0 1 = cc in absurd (omega arith)
 
 -- merging a result
 module _ (t : List ℕ) (r : Result t) where

@@ -4,8 +4,8 @@ use mathlib.Core.List.{List, [], _∷_, _++_}
 use Prim.Native.Nat.{ℕ}
 use native.Mathlib.Omega.{arith}
 use lib.ListN.{getD, replicate}
-use Rattle.cell.specs.declared.Record.{Record}
 use Rattle.value.specs.Value.{eqNet, leNet, driver, isAlways, canonicalize, notControl, eqControl, leControl}
+use Rattle.cell.specs.declared.Record.{Record}
 use Rattle.cell.specs.Bytes.{word16, word32, bytes16, bytes32}
 use Rattle.cell.specs.Kinds.{kindOf, fieldOf, useOf, isOperand, isCombEdge, edgeAt}
 use Rattle.cell.specs.Records.{recordOf, recordAt, recordsOf, bytesOf, cellOf, cellRecord}

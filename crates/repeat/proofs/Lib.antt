@@ -4,3 +4,4 @@ pub mod Results
 pub mod Plain
 pub mod Calls
 pub mod Examples
+pub mod Unpaired

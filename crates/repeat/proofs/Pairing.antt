@@ -1,5 +1,5 @@
 -- Netlists that pair off do so record by record. Assumes nothing.
-use mathlib.Core.Path.{_≡_, refl, sym, ap, ap₂, _∙_, subst}
+use mathlib.Core.Path.{_≡_, refl, sym, ap, _∙_}
 use mathlib.Core.Bool.{Bool}
 use mathlib.Core.List.{List, map}
 use mathlib.Core.Logic.{_⊎_, inl, inr, ⊎-elim}
@@ -16,13 +16,12 @@ use Rattle.cell.specs.Records.{recordIn, cellRecord}
 use Rattle.netlist.specs.Shape.{visitMut, isInput, isOutput}
 use Rattle.netlist.specs.Netlist.{Netlist, cellIn, encode, slots, those}
 use Rattle.levels.specs.Evaluate.{inputSlots, outputSlots}
-use Rattle.kept.proofs.Lists.{all-tabulate, those-same}
-use Rattle.kept.proofs.Records.{input-kind, output-kind}
-use Rattle.kept.proofs.Sound as sound
+use Rattle.order_laws.proofs.Members.{all-tabulate, those-same}
+use Rattle.order_laws.proofs.Sorts.{input-kind, output-kind}
 use Rattle.kept.proofs.Sound.{Sound}
 use Rattle.kept.proofs.Passing.{encode-length, encode-at}
-use Rattle.normal.specs.Paired.{exchange, Alike, renumber, PairedBy, Paired}
-use Rattle.repeat.specs.Pairing.{recordBy, exchanged, slotsOfKind, RecordsPairedBy, RecordsPaired}
+use Rattle.normal.specs.Paired.{exchange, Alike, renumber, PairedBy}
+use Rattle.repeat.specs.Pairing.{recordBy, exchanged, slotsOfKind, RecordsPaired}
 
 -- a cell's record by another numbering, and exchanged
 record-by : (p : ℕ → ℕ) (bit : ℕ) (c : Cell) → recordBy p (cellRecord bit c) ≡ cellRecord bit (visitMut (renumber p) c)
@@ -90,16 +89,25 @@ module _ (d e : Netlist) (rank rank′ : ℕ → ℕ) (good : Sound d rank) (goo
       ⊎-elim (λ q. inl (ap (recordBy p) (sym is) ∙ q ∙ is′)) (λ q. inr (ap (λ (r : Record). exchanged (recordBy p r)) (sym is) ∙ q ∙ is′))
       (record-alike p bit (cellIn (d .cells) s) (cellIn (e .cells) (p s)) (pairs .cells s l))
 
+  kinds-paired : (k : ℕ) (sort : Cell → Bool) → ((bit : ℕ) (c : Cell) → sort c ≡ eqb (cellRecord bit c .kind) k)
+      → map p (those (λ s. sort (cellIn (d .cells) s)) (slots (length (d .cells)))) ≡ those (λ s. sort (cellIn (e .cells) s)) (slots (length (e .cells)))
+      → map p (slotsOfKind k (encode d)) ≡ slotsOfKind k (encode e)
+  kinds-paired k sort same h = ap (map p) (kind-slots d rank good k sort same) ∙ h ∙ sym (kind-slots e rank′ good′ k sort same)
+
+  -- each field follows by arithmetic or congruence
   pub records-paired : RecordsPaired (encode d) (encode e)
   unfolding inputSlots outputSlots
-  records-paired = record {
-    pairing = p;
-    paired = record {
-      many = encode-length d rank good ∙ pairs .many ∙ sym (encode-length e rank′ good′);
-      inside = λ s l. there (p s) (pairs .inside s (here s l));
-      single = λ s s′ l l′. pairs .single s s′ (here s l) (here s′ l′);
-      inputs = ap (map p) (kind-slots d rank good 1 isInput input-kind) ∙ pairs .inputs ∙ sym (kind-slots e rank′ good′ 1 isInput input-kind);
-      outputs = ap (map p) (kind-slots d rank good 2 isOutput output-kind) ∙ pairs .outputs ∙ sym (kind-slots e rank′ good′ 2 isOutput output-kind);
-      records = records-alike;
-    };
-  }
+  records-paired =
+      let ins : map p (slotsOfKind 1 (encode d)) ≡ slotsOfKind 1 (encode e) = kinds-paired 1 isInput input-kind (pairs .inputs) in
+      let outs : map p (slotsOfKind 2 (encode d)) ≡ slotsOfKind 2 (encode e) = kinds-paired 2 isOutput output-kind (pairs .outputs) in
+      record {
+        pairing = p;
+        paired = record {
+          many = omega (arith, encode-length d rank good, pairs .many, encode-length e rank′ good′);
+          inside = λ s l. omega (arith, there (p s) (pairs .inside s (here s l)));
+          single = λ s s′ l l′ q. omega (arith, pairs .single s s′ (here s l) (here s′ l′) q);
+          inputs = cc ins;
+          outputs = cc outs;
+          records = λ s l. ⊎-elim (λ q. inl (cc q)) (λ q. inr (cc q)) (records-alike s l);
+        };
+      }

@@ -2,27 +2,28 @@
 use mathlib.Core.Path.{_≡_, sym, ap, ap₂, _∙_, subst}
 use mathlib.Core.Bool.{Bool, false}
 use mathlib.Core.List.{List, [], _∷_, _++_}
-use Prim.Native.Nat.{ℕ, _+_, _*_, _/_, _%_, _≤_}
+use Prim.Native.Nat.{ℕ, _+_, _*_, _/_, _≤_}
 use native.Mathlib.Omega.{arith}
 use lib.Dec.{ltb}
 use lib.ListN.{length}
 use borrow.Author.Tests.{le-ltb, ltb-false}
 use Rattle.cell.specs.declared.Record.{Record}
 use Rattle.cell.specs.Records.{recordsOf}
-use Rattle.netlist.specs.Netlist.{Netlist, encode}
-use Rattle.design.specs.Queue.{findNewCell}
-use Rattle.merge.specs.Merge.{merge}
-use Rattle.rewrite.specs.Rewrite.{run, slotsOf, rewrite}
 use Rattle.checking.specs.declared.Verdict.{Verdict}
 use Rattle.checking.specs.declared.Verdict.the-variants.{Pass}
 use Rattle.checking.specs.declared.Refusal.the-variants.{SlotsExhausted, ShortReply}
 use Rattle.checking.specs.Refusals.{Stage, firstOf}
 use Rattle.checking.specs.Checking.{workStage, sizeStage, netlistStages, checkStages}
 use Rattle.checking.proofs.Stages.{first-passes}
+use Rattle.netlist.specs.Netlist.{Netlist, encode}
+use Rattle.design.specs.Queue.{findNewCell}
+use Rattle.design.proofs.Lists.{ticket-length}
+use Rattle.merge.specs.Merge.{merge}
+use Rattle.rewrite.specs.Rewrite.{run, slotsOf, rewrite}
 use Rattle.calls.specs.Answers.{writtenBy, mergedBy}
 use Rattle.calls.specs.Calls.{decoded, encoded, room, mergeBytes, mergeVerdict, mergeAnswer, rewriteRun, rewriteBytes, rewriteStages, rewriteVerdict, rewriteAnswer}
-use Rattle.kept.proofs.Passing.{encode-length, sound-passes}
-use Rattle.kept.proofs.Bytes.{Labelled, ticket-length, records-back, netlist-back}
+use Rattle.kept.proofs.Passing.{encode-length}
+use Rattle.kept.proofs.Bytes.{Labelled, records-back, netlist-back, encoded-records}
 use Rattle.rewrite_sound.proofs.Result.{rewrite-labelled}
 use Rattle.normal.specs.Paired.{Paired}
 use Rattle.normal.proofs.Normal.{Normal}
@@ -57,7 +58,7 @@ module _ (u : List ℕ) (r : Result u) where
   records = ap recordsOf (r .is) ∙ records-back d (r .ranks) (r .normal .sound) (r .labelled)
 
   records-pass : firstOf (netlistStages (recordsOf u)) ≡ Pass
-  records-pass = ap (λ (rs : List Record). firstOf (netlistStages rs)) records ∙ sound-passes d (r .ranks) (r .normal .sound)
+  records-pass = ap (λ (v : List ℕ). firstOf (netlistStages (recordsOf v))) (r .is) ∙ encoded-records d (r .ranks) (r .normal .sound) (r .labelled)
 
   later : (words : ℕ) (rest : List Stage) → firstOf (checkStages words u ++ rest) ≡ firstOf (workStage words ∷ sizeStage u ∷ rest)
   later words = checked-later words u (omega (arith, long)) records-pass

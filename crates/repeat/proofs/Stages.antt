@@ -1,7 +1,7 @@
 -- Stages that are passed in any case can be left out. Assumes nothing.
 use mathlib.Core.Path.{_≡_, refl, sym, ap, _∙_}
 use mathlib.Core.Bool.{Bool, true, false, not}
-use mathlib.Core.List.{List, [], _∷_, _++_}
+use mathlib.Core.List.{List, _∷_, _++_}
 use Prim.Native.Nat.{ℕ, _%_}
 use lib.ListN.{length}
 use borrow.Author.Tests.{eq-eqb}

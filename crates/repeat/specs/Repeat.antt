@@ -6,11 +6,11 @@ use Prim.Native.Nat.{ℕ}
 use lib.Dec.{eqb}
 use lib.ListN.{length, take}
 use Rattle.cell.specs.Records.{recordsOf}
-use Rattle.netlist.specs.Netlist.{anyOf}
-use Rattle.design.specs.Queue.{findNewCell}
 use Rattle.checking.specs.declared.Verdict.{Verdict}
 use Rattle.checking.specs.Refusals.{firstOf}
 use Rattle.checking.specs.Checking.{workStage, sizeStage}
+use Rattle.netlist.specs.Netlist.{anyOf}
+use Rattle.design.specs.Queue.{findNewCell}
 use Rattle.calls.specs.declared.Written.the-variants as written
 use Rattle.calls.specs.declared.Merged.the-variants as merged
 use Rattle.calls.specs.Answers.{writtenBy, mergedBy}

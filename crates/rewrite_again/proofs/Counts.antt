@@ -9,10 +9,11 @@ use lib.ListN.{length, length-append}
 use borrow.Author.Tests.{eqb-true, eqb-false}
 use Rattle.cell.specs.Tabulate.{tabulate}
 use Rattle.netlist.specs.Netlist.{those, slots}
+use Rattle.order.proofs.Bits.{those-append}
 use Rattle.order_laws.specs.Ordered.{has, OnceAfter, Each}
-use Rattle.order_laws.proofs.Walks.{either, eqb-self, or-left, or-right, has-snoc-same, has-snoc-other}
-use Rattle.kept.proofs.Lists.{those-append, those-same, all-tabulate}
-use Rattle.kept.proofs.Chosen.{chosen, count, chosen-no, count-yes, count-no}
+use Rattle.order_laws.proofs.Truth.{either}
+use Rattle.order_laws.proofs.Members.{has-snoc-same, has-snoc-other, those-same, all-tabulate, has-first, has-later}
+use Rattle.kept.proofs.Chosen.{chosen, count, count-yes, count-no}
 
 pub count-same : (p q : ℕ → Bool) (n : ℕ) → ((i : ℕ) → i < n → p i ≡ q i) → count p n ≡ count q n
 unfolding chosen
@@ -43,18 +44,12 @@ count-not p (suc n) =
     (λ e. omega (arith, count-yes p n e, count-no (λ i. not (p i)) n (ap not e)))
     (λ e. omega (arith, count-no p n e, count-yes (λ i. not (p i)) n (ap not e)))
 
--- all pass from slot n on, or none does
+-- all pass from slot n on
 pub count-rest : (p : ℕ → Bool) (n k : ℕ) → ((i : ℕ) → n ≤ i → i < n + k → p i ≡ true) → count p (n + k) ≡ count p n + k
 count-rest p n zero h = ap (count p) (let q : n + 0 ≡ n = omega arith in q) ∙ omega arith
 count-rest p n (suc k) h =
     let rec : count p (n + k) ≡ count p n + k = count-rest p n k (λ i a b. h i a (omega arith)) in
     ap (count p) (let q : n + suc k ≡ suc (n + k) = omega arith in q) ∙ count-yes p (n + k) (h (n + k) (omega arith) (omega arith)) ∙ omega arith
-
-pub chosen-rest : (p : ℕ → Bool) (n k : ℕ) → ((i : ℕ) → n ≤ i → i < n + k → p i ≡ false) → chosen p (n + k) ≡ chosen p n
-chosen-rest p n zero h = ap (chosen p) (let q : n + 0 ≡ n = omega arith in q)
-chosen-rest p n (suc k) h =
-    ap (chosen p) (let q : n + suc k ≡ suc (n + k) = omega arith in q)
-    ∙ chosen-no p (n + k) (h (n + k) (omega arith) (omega arith)) ∙ chosen-rest p n k (λ i a b. h i a (omega arith))
 
 module _ (p : ℕ → Bool) where
   -- those of a list that pass, by the slots' own order
@@ -99,8 +94,8 @@ module _ (p : ℕ → Bool) where
   count-items n [] before o l h = rw (append-nil before) h
   count-items n (s ∷ xs) before o l h =
       subst (λ (b : List ℕ). length (those p b) ≡ count (among b) n) (append-assoc before (s ∷ []) xs)
-      (count-items n xs (before ++ (s ∷ [])) (o .1) (λ x e. l x (or-right (eqb x s) (has x xs) e))
-      (count-item before s n (l s (or-left (eqb s s) (has s xs) (eqb-self s))) (o .0) h))
+      (count-items n xs (before ++ (s ∷ [])) (o .1) (λ x e. l x (has-later x s xs e))
+      (count-item before s n (l s (has-first s xs)) (o .0) h))
 
   none-among : (n : ℕ) → count (λ (i : ℕ). false) n ≡ 0
   unfolding chosen tabulate those

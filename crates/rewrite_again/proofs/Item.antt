@@ -2,7 +2,7 @@
 -- Assumes nothing.
 use mathlib.Core.Path.{_≡_, refl, sym, ap, _∙_, subst}
 use mathlib.Core.Bool.{Bool, true, false, cond, true≢false}
-use mathlib.Core.List.{List, [], _∷_, _++_, append-assoc, append-nil}
+use mathlib.Core.List.{List, [], _∷_, _++_}
 use Prim.Native.Nat.{ℕ, _+_, _≤_, _<_}
 use native.Mathlib.Omega.{arith}
 use lib.Dec.{eqb}
@@ -17,15 +17,17 @@ use Rattle.netlist.specs.Netlist.{Netlist, cellIn, those}
 use Rattle.order.specs.Orders.{topoSort}
 use Rattle.design.specs.Queue.{Entry, netIn, mapNetNew, findNewCell}
 use Rattle.rewrite.specs.Rewriter.{Rewriter, entered, finished}
-use Rattle.rewrite.specs.Rewrite.{Result, enter, processCell, addCell, Run, ran, stuck, bitDone, cellDone, runItem, andThen, runItems}
-use Rattle.order_laws.specs.Ordered.{has, OnceAfter}
-use Rattle.order_laws.proofs.Walks.{either, never, eqb-self, or-left, or-right, has-append, has-snoc-same, has-snoc-other}
-use Rattle.levels_laws.specs.Algebra.{All}
-use Rattle.levels_laws.proofs.Operands.{all-imp}
-use Rattle.kept.proofs.Lists.{all-append}
+use Rattle.rewrite.specs.Rewrite.{Result, enter, processCell, addCell, Run, bitDone, cellDone, runItem}
+use Rattle.order_laws.specs.Ordered.{has}
+use Rattle.order_laws.specs.Members.{All}
+use Rattle.order_laws.proofs.Truth.{either, never}
+use Rattle.order_laws.proofs.Members.{has-snoc-same, has-snoc-other, all-imp, all-append, has-snoc-old}
+use Rattle.order_laws.proofs.Sorts.{splittable-gate, effects-by, splits-by}
+use Rattle.rewrite_laws.proofs.Items.{Along, item-by}
 use Rattle.normal.specs.Paired.{exchange, Alike}
 use Rattle.normal.proofs.Normal.{Normal}
-use Rattle.rewrite_again.proofs.Cells.{image-exchange, image-effects, image-splittable, image-buf, splittable-gate}
+use Rattle.normal.proofs.Alike.{bufs-by, image-sort}
+use Rattle.rewrite_again.proofs.Cells.{image-exchange}
 use Rattle.rewrite_again.proofs.Counts.{those-yes, those-no}
 use Rattle.rewrite_again.proofs.Origin.{splits, origin, origin-old, origin-next}
 use Rattle.rewrite_again.proofs.State.{Stands, Added, Cached, State, g, mapped-cell, still, unknown}
@@ -42,8 +44,7 @@ module _ (d : Netlist) (rank : ℕ → ℕ) (normal : Normal d rank) where
   St = State d rank normal
 
   abbrev pub Ran : List ℕ → Run → Type 0
-  Ran before (ran r) = St before r
-  Ran before (stuck r) = ⊥
+  Ran = Along St (λ r. ⊥)
 
   -- an item more
   module _ (before : List ℕ) (s : ℕ) where
@@ -51,7 +52,7 @@ module _ (d : Netlist) (rank : ℕ → ℕ) (normal : Normal d rank) where
     before′ = before ++ (s ∷ [])
 
     has-more : (i : ℕ) → has i before ≡ true → has i before′ ≡ true
-    has-more i h = has-append i before (s ∷ []) ∙ or-left (has i before) (has i (s ∷ [])) h
+    has-more i h = has-snoc-old i before s h
 
     has-less : (i : ℕ) → (i ≡ s → ⊥) → has i before′ ≡ true → has i before ≡ true
     has-less i k h = sym (has-snoc-other i before s k) ∙ h
@@ -96,7 +97,7 @@ module _ (d : Netlist) (rank : ℕ → ℕ) (normal : Normal d rank) where
       here-processed =
           processed findNewCell r here (still d rank normal before r st s small new here here-alike) (still d rank normal before r st s small new (exchange here) turned-alike)
           (unknown d rank normal before r st s small new here here-alike) (unknown d rank normal before r st s small new (exchange here) turned-alike)
-          (image-buf G here (cellIn C s) here-alike ∙ normal .still s small .unbuffered)
+          (image-sort bufs-by G here (cellIn C s) here-alike ∙ normal .still s small .unbuffered)
 
       -- what is cached of it
       item-cached : (c : Cell) → Alike (visitMut G c) (cellIn C s) → hasEffects (cellIn C s) ≡ false → Cached d rank normal before′ c
@@ -129,19 +130,18 @@ module _ (d : Netlist) (rank : ℕ → ℕ) (normal : Normal d rank) where
             rw (z, getD-set-same (r .design .cells) s e (Input 0) (omega (arith, l, z)), origin-old C s small) a)
             (λ q. rw (getD-set-other (r .design .cells) s m e (Input 0) (eqb-false m s q)) (st .likes m l))
 
-        -- an input or an output, or a gate as it was
-        none-ok : (b : Bool) → hasEffects here ≡ b → St before′ (cond b r (finished r s (r .design) (r .cache ++ ((here, netIn s) ∷ []))))
-        unfolding finished
-        none-ok true e = stay-state r refl refl (st .likes) (cache-more (r .cache) (st .known))
-        none-ok false e = stay-state _ refl refl (st .likes) (cache-item here (netIn s) here-alike (sym (image-effects G here (cellIn C s) here-alike) ∙ e))
-
-        -- and a gate with its operands exchanged
+        -- an input or an output, or a gate as it was; or a gate with its operands exchanged
         cell-ok : (z : Result) → Processed findNewCell r here z → Ran before′ (cellDone s here z)
         unfolding finished
         cell-ok z (untouched e) = rw e (none-ok (hasEffects here) refl)
+          where
+            none-ok : (b : Bool) → hasEffects here ≡ b → St before′ (cond b r (finished r s (r .design) (r .cache ++ ((here, netIn s) ∷ []))))
+            none-ok true e = stay-state r refl refl (st .likes) (cache-more (r .cache) (st .known))
+            none-ok false e =
+                stay-state _ refl refl (st .likes) (cache-item here (netIn s) here-alike (sym (image-sort effects-by G here (cellIn C s) here-alike) ∙ e))
         cell-ok z (turned e h) =
             rw e (stay-state _ refl (length-set (r .design .cells) s (exchange here)) (turned-likes (exchange here) turned-alike)
-            (cache-item (exchange here) (netIn s) turned-alike (sym (image-effects G here (cellIn C s) here-alike) ∙ h)))
+            (cache-item (exchange here) (netIn s) turned-alike (sym (image-sort effects-by G here (cellIn C s) here-alike) ∙ h)))
 
       -- it is added in the next slot
       module _ (after : List ℕ) (order : topoSort C ≡ before ++ (s ∷ after)) (cut : splits C s ≡ true) (c : Cell) (a : Alike (visitMut G c) (cellIn C s)) where
@@ -205,28 +205,18 @@ module _ (d : Netlist) (rank : ℕ → ℕ) (normal : Normal d rank) where
 
       -- the law
       pub item-ok : (after : List ℕ) → topoSort C ≡ before ++ (s ∷ after) → Ran before′ (runItem findNewCell s r)
-      unfolding runItem addCell entered finished
-      item-ok after order = go (isSplittable here) (image-splittable G here (cellIn C s) here-alike) here-processed
+      unfolding addCell entered finished
+      item-ok after order =
+          item-by findNewCell s r (Ran before′) (λ b e. bit-ok (sym same ∙ b) (processCell findNewCell r here) here-processed)
+          (λ e. cell-ok (sym same ∙ whole e) (processCell findNewCell r here) here-processed)
+          (λ b e. cell-ok (sym same ∙ b) (processCell findNewCell r here) here-processed)
         where
+          same : isSplittable here ≡ splits C s
+          same = image-sort splits-by G here (cellIn C s) here-alike
+
+          whole : hasEffects here ≡ true → isSplittable here ≡ false
+          whole e = either (isSplittable here) (λ q. never e (splittable-gate here q)) (λ q. q)
+
           bit-ok : splits C s ≡ true → (z : Result) → Processed findNewCell r here z → Ran before′ (bitDone s (enter here z))
           bit-ok cut z (untouched e) = rw e (added-state after order cut here here-alike _ refl refl refl)
           bit-ok cut z (turned e h) = rw e (added-state after order cut (exchange here) turned-alike _ refl refl refl)
-
-          go : (b : Bool) → b ≡ splits C s → Processed findNewCell r here (processCell findNewCell r here)
-              → Ran before′ (cond b (bitDone s (enter here (processCell findNewCell r here))) (cellDone s here (processCell findNewCell r here)))
-          go true e p = bit-ok (sym e) (processCell findNewCell r here) p
-          go false e p = cell-ok (sym e) (processCell findNewCell r here) p
-
-  -- the items in their order
-  pub items-ok : (ss before : List ℕ) (r : Rewriter) → St before r → OnceAfter before ss → topoSort C ≡ before ++ ss → ((s : ℕ) → has s ss ≡ true → s < length C)
-      → Ran (before ++ ss) (runItems findNewCell ss r)
-  unfolding runItems has OnceAfter
-  items-ok [] before r st o e l = rw (append-nil before) st
-  items-ok (s ∷ ss) before r st o e l =
-      go (runItem findNewCell s r) (item-ok before s (l s (or-left (eqb s s) (has s ss) (eqb-self s))) (o .0) r st ss e)
-      (λ r′ st′. items-ok ss (before ++ (s ∷ [])) r′ st′ (o .1) (e ∙ sym (append-assoc before (s ∷ []) ss)) (λ x q. l x (or-right (eqb x s) (has x ss) q)))
-    where
-      go : (x : Run) → Ran (before ++ (s ∷ [])) x → ((r : Rewriter) → St (before ++ (s ∷ [])) r → Ran ((before ++ (s ∷ [])) ++ ss) (runItems findNewCell ss r))
-          → Ran (before ++ (s ∷ ss)) (andThen (runItems findNewCell ss) x)
-      go (ran r′) k rec = subst (λ (b : List ℕ). Ran b (runItems findNewCell ss r′)) (append-assoc before (s ∷ []) ss) (rec r′ k)
-      go (stuck r′) k rec = k

@@ -5,7 +5,6 @@ pub mod State
 pub mod Passes
 pub mod Item
 pub mod Run
-pub mod Keeping
 pub mod Applied
 pub mod Whole
 pub mod Again

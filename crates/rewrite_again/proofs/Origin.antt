@@ -2,10 +2,10 @@
 -- itself, and an added one for the slot whose cell is added there. Assumes nothing.
 use mathlib.Core.Path.{_≡_, sym, ap, _∙_, subst}
 use mathlib.Core.Bool.{Bool, true, cond}
-use mathlib.Core.List.{List, [], _∷_, _++_}
-use Prim.Native.Nat.{ℕ, zero, suc, _+_, _-_, _≤_, _<_}
+use mathlib.Core.List.{List, _∷_, _++_}
+use Prim.Native.Nat.{ℕ, _+_, _-_, _≤_, _<_}
 use native.Mathlib.Omega.{arith}
-use lib.Dec.{eqb, ltb}
+use lib.Dec.{ltb}
 use lib.ListN.{length, getD, List·getD-eq-default}
 use lib.Seq.{getD-append-seam}
 use borrow.Author.Tests.{ltb-true, ltb-false, lt-ltb, le-ltb}
@@ -18,31 +18,15 @@ use Rattle.cell.specs.declared.Cell.{Cell}
 use Rattle.netlist.specs.Shape.{isSplittable}
 use Rattle.netlist.specs.Netlist.{cellIn, those}
 use Rattle.order.specs.Orders.{topoSort}
+use Rattle.order.proofs.Bits.{those-append}
 use Rattle.design.specs.Queue.{netIn}
-use Rattle.order_laws.specs.Ordered.{has}
-use Rattle.order_laws.proofs.Walks.{either, eqb-self, or-left, or-right}
+use Rattle.order_laws.specs.Members.{All, Drives}
 use Rattle.order_laws.proofs.Bits.{topoSort-each}
-use Rattle.levels_laws.specs.Algebra.{All}
-use Rattle.kept.proofs.Lists.{those-append, those-pass, all-those}
+use Rattle.order_laws.proofs.Truth.{either}
+use Rattle.order_laws.proofs.Members.{those-pass, all-those, all-at, all-has}
 use Rattle.normal.specs.Paired.{renumber}
 use Rattle.normal.proofs.Rules.{Fixes}
 use Rattle.normal.proofs.Alike.{renumber-slot, renumber-fixes, renumber-stays}
-
--- a slot's net
-pub driver-in : (k : ℕ) → k ≤ 4294967292 → driver (netIn k) ≡ driven.Cell (slotAt k)
-driver-in k h = driver-cell (slotAt k) h
-
--- each member of a list, by its place
-pub all-at : {A : Type 0} (P : A → Type 0) (l : List A) (i : ℕ) (d : A) → All P l → i < length l → P (getD l i d)
-unfolding All
-all-at P [] i d h l = absurd (omega arith)
-all-at P (x ∷ xs) zero d h l = h .0
-all-at P (x ∷ xs) (suc i) d h l = all-at P xs i d (h .1) (omega arith)
-
-pub all-has : (P : ℕ → Type 0) (l : List ℕ) → ((x : ℕ) → has x l ≡ true → P x) → All P l
-unfolding All has
-all-has P [] h = tt
-all-has P (x ∷ xs) h = (h x (or-left (eqb x x) (has x xs) (eqb-self x)), all-has P xs (λ y e. h y (or-right (eqb y x) (has y xs) e)))
 
 module _ (cs : List Cell) where
   abbrev pub total : ℕ
@@ -111,13 +95,13 @@ module _ (cs : List Cell) where
 
   module _ (few : total ≤ 65536) where
     pub back-driven : (n : Net) (x : Slot) → driver n ≡ driven.Cell x → driver (back n) ≡ driven.Cell (slotAt (origin (x .0)))
-    back-driven n x e = ap driver (renumber-slot origin n x e) ∙ driver-in (origin (x .0)) (omega (arith, origin-most (x .0)))
+    back-driven n x e = ap driver (renumber-slot origin n x e) ∙ driver-cell (slotAt (origin (x .0))) (omega (arith, origin-most (x .0)))
 
     pub back-in : (m : ℕ) → m ≤ 4294967292 → back (netIn m) ≡ netIn (origin m)
-    back-in m h = renumber-slot origin (netIn m) (slotAt m) (driver-in m h)
+    back-in m h = renumber-slot origin (netIn m) (slotAt m) (driver-cell (slotAt m) h)
 
     -- the netlist's nets stay
-    pub back-old : (n : Net) → ((x : Slot) → driver n ≡ driven.Cell x → x .0 < total) → back n ≡ n
+    pub back-old : (n : Net) → Drives (λ x. x < total) n → back n ≡ n
     back-old n h = renumber-stays origin n (λ x e. origin-old (x .0) (h x e))
 
     pub back-fixes : Fixes back

@@ -17,7 +17,7 @@ use Rattle.normalize.specs.Normalize.{normalize}
 use Rattle.aig.specs.Aig.{simpleAigOpt}
 use Rattle.rewrite.specs.Rewriter.{Rewriter, Lookup, findCell, weight}
 use Rattle.rewrite.specs.Rewrite.{rules, Result, none, cell, perform, enter, asked, replacing, goOn, process, processCell}
-use Rattle.order_laws.proofs.Walks.{either}
+use Rattle.order_laws.proofs.Truth.{either}
 use Rattle.normal.specs.Paired.{exchange}
 use Rattle.normal.proofs.Normal.{isBuf}
 use Rattle.rewrite_again.proofs.State.{g}

@@ -15,14 +15,17 @@ use Rattle.design.specs.Queue.{netIn, unchanged, findNewCell}
 use Rattle.rewrite.specs.Rewriter.{begun}
 use Rattle.rewrite.specs.Rewrite.{Run, ran, stuck, run, slotsOf}
 use Rattle.order_laws.specs.Ordered.{has}
-use Rattle.order_laws.proofs.Bits.{topoSort-each}
-use Rattle.levels_laws.specs.Algebra.{All, Before, Ranked}
-use Rattle.levels_laws.proofs.Operands.{all-imp}
+use Rattle.order_laws.specs.Members.{All}
+use Rattle.order_laws.proofs.Bits.{topoSort-fed}
+use Rattle.order_laws.proofs.Members.{all-imp}
+use Rattle.rewrite_laws.proofs.Items.{run-along}
+use Rattle.levels_laws.specs.Algebra.{Before, Ranked}
+use Rattle.levels_laws.proofs.Ranks.{ranked-falls}
 use Rattle.normal.proofs.Normal.{Normal}
 use Rattle.normal.proofs.Alike.{visit-stays}
 use Rattle.rewrite_again.proofs.Origin.{origin-old, back-old}
 use Rattle.rewrite_again.proofs.State.{g, few, made-few}
-use Rattle.rewrite_again.proofs.Item.{St, Ran, items-ok}
+use Rattle.rewrite_again.proofs.Item.{St, Ran, item-ok}
 
 module _ (d : Netlist) (rank : ℕ → ℕ) (normal : Normal d rank) where
   abbrev C : List Cell
@@ -53,8 +56,9 @@ module _ (d : Netlist) (rank : ℕ → ℕ) (normal : Normal d rank) where
   }
 
   pub run-ok : Ran d rank normal (topoSort C) (run findNewCell C)
-  unfolding run
-  run-ok = items-ok d rank normal (topoSort C) [] (begun C) begun-state (topoSort-each C .once) refl (topoSort-each C .small)
+  run-ok =
+      run-along C (St d rank normal) (λ r. ⊥) findNewCell (topoSort-fed C rank (ranked-falls C rank (normal .sound .ranked)))
+      (λ before s n r st. item-ok d rank normal before s (n .small) (n .new) r st (n .later) (n .is)) begun-state
 
   -- so refusal 9 cannot come for at most 512 records
   pub run-slots : slotsOf (run findNewCell C) ≤ length C + length C

@@ -2,8 +2,8 @@
 -- applies to the next cell, and the cache does not know it. Assumes nothing.
 use mathlib.Core.Path.{_≡_, refl, sym, ap, _∙_, subst}
 use mathlib.Core.Bool.{Bool, true, false, cond, true≢false, false≢true}
-use mathlib.Core.List.{List, [], _∷_}
-use Prim.Native.Nat.{ℕ, zero, suc, _+_, _≤_, _<_}
+use mathlib.Core.List.{List}
+use Prim.Native.Nat.{ℕ, _+_, _≤_, _<_}
 use native.Mathlib.Omega.{arith}
 use lib.Dec.{eqb, ltb}
 use lib.ListN.{length, getD, List·getD-eq-default}
@@ -11,7 +11,7 @@ use borrow.Author.Tests.{ltb-true, ltb-false}
 use Rattle.value.specs.declared.Net.{Net}
 use Rattle.value.specs.declared.Driver.{Driver}
 use Rattle.value.specs.declared.Driver.the-variants as driven
-use Rattle.value.specs.Value.{eqNet, driver}
+use Rattle.value.specs.Value.{driver}
 use Rattle.value.proofs.Laws.{cell-driver}
 use Rattle.cell.specs.declared.Cell.{Cell}
 use Rattle.cell.specs.declared.Cell.the-variants.{Input}
@@ -21,22 +21,23 @@ use Rattle.order.specs.Orders.{topoSort}
 use Rattle.design.specs.declared.Source.the-variants.{Opaque, Known}
 use Rattle.design.specs.declared.Found.{Found}
 use Rattle.design.specs.declared.Found.the-variants.{Nothing, At}
-use Rattle.design.specs.Queue.{Entry, netIn, drivenTo, followed, mapNetNew, sourceIn, findNewCell, eqCell, seek}
+use Rattle.design.specs.Queue.{Entry, netIn, drivenTo, mapNetNew, sourceIn, findNewCell, seek}
 use Rattle.normalize.specs.declared.Outcome.{Outcome}
 use Rattle.normalize.specs.declared.Outcome.the-variants.{None, Value, Form, Add, NotOf, AddNotOf}
 use Rattle.aig.specs.Aig.{simpleAigOpt}
 use Rattle.rewrite.specs.Rewriter.{Rewriter, stamp, findCell}
 use Rattle.order_laws.specs.Ordered.{has}
-use Rattle.order_laws.proofs.Walks.{either, never}
+use Rattle.order_laws.specs.Members.{All}
 use Rattle.order_laws.proofs.Bits.{topoSort-each}
-use Rattle.levels_laws.specs.Algebra.{All}
-use Rattle.levels_laws.proofs.Operands.{all-every}
+use Rattle.order_laws.proofs.Truth.{either, never}
+use Rattle.order_laws.proofs.Members.{all-every}
+use Rattle.order_laws.proofs.Queue.{mapped-keeps, replacement, seek-finds}
 use Rattle.kept.proofs.Chosen.{count-le}
 use Rattle.normal.specs.Paired.{Alike}
 use Rattle.normal.proofs.Normal.{fires, lookIn, Normal}
 use Rattle.normal.proofs.Rules.{isRuled, Carried, Follows, still-follows}
 use Rattle.normal.proofs.Alike.{visit-visit, visit-same}
-use Rattle.rewrite_again.proofs.Cells.{alike-both, eqCell-true}
+use Rattle.rewrite_again.proofs.Cells.{alike-both}
 use Rattle.rewrite_again.proofs.Counts.{each-count}
 use Rattle.rewrite_again.proofs.Origin.{splits, made, origin, origin-old, inside-origin, back, back-driven, back-in, back-fixes}
 
@@ -47,16 +48,6 @@ fires-none (Form c) e = absurd (true≢false e)
 fires-none (Add c) e = absurd (true≢false e)
 fires-none (NotOf c) e = absurd (true≢false e)
 fires-none (AddNotOf c) e = absurd (true≢false e)
-
--- what a search of the cache finds is an entry with that cell
-pub seek-finds : (P : Cell → Type 0) (es : List Entry) (c : Cell) (n : Net) → All (λ (e : Entry). P (e .0)) es → seek es c ≡ At n → P c
-unfolding seek All
-seek-finds P [] c n h e = let z : _≡_ {A = ℕ} 0 1 = cc in absurd (omega arith)
-seek-finds P (x ∷ es) c n h e = go (eqCell (x .0) c) refl e (seek-finds P es c n (h .1))
-  where
-    go : (b : Bool) → eqCell (x .0) c ≡ b → cond b (At (x .1)) (seek es c) ≡ At n → (seek es c ≡ At n → P c) → P c
-    go true q f rec = subst P (eqCell-true (x .0) c q) (h .0)
-    go false q f rec = rec f
 
 module _ (d : Netlist) (rank : ℕ → ℕ) (normal : Normal d rank) where
   abbrev pub cs : List Cell
@@ -116,7 +107,7 @@ module _ (d : Netlist) (rank : ℕ → ℕ) (normal : Normal d rank) where
         ap g (s .is) ∙ back-in cs few (s .slot) (slot-few (s .slot) i (s .from) l) ∙ ap netIn (s .from)
 
     -- replaced or not, a net stands for the same
-    one-step : (n : Net) → g (drivenTo rs n (driver n)) ≡ g n
+    one-step : (n : Net) → g (replacement rs n) ≡ g n
     one-step n = go (driver n) refl
       where
         go : (y : Driver) → driver n ≡ y → g (drivenTo rs n y) ≡ g n
@@ -126,18 +117,8 @@ module _ (d : Netlist) (rank : ℕ → ℕ) (normal : Normal d rank) where
             stands-back (x .0) n l ∙ ap netIn (sym (origin-old cs (x .0) l)) ∙ sym (back-in cs few (x .0) (omega (arith, l, few))) ∙ ap g (sym (cell-driver n x e)))
             (λ b. ap g (List·getD-eq-default rs n {n = x .0} (omega (arith, st .wide, ltb-false (x .0) (length cs) b))))
 
-    followed-same : (k : ℕ) (n : Net) → g (followed k rs n) ≡ g n
-    unfolding followed
-    followed-same zero n = refl
-    followed-same (suc k) n = go (eqNet (drivenTo rs n (driver n)) n) (followed-same k (drivenTo rs n (driver n)) ∙ one-step n)
-      where
-        go : (b : Bool) → g (followed k rs (drivenTo rs n (driver n))) ≡ g n → g (cond b n (followed k rs (drivenTo rs n (driver n)))) ≡ g n
-        go true e = refl
-        go false e = e
-
     pub mapped-same : (n : Net) → g (mapNetNew rs n) ≡ g n
-    unfolding mapNetNew
-    mapped-same n = followed-same (length rs) n
+    mapped-same n = mapped-keeps rs (λ m. g m ≡ g n) (λ m e. one-step m ∙ e) n refl
 
     pub mapped-cell : (c : Cell) → visitMut g (visitMut (mapNetNew rs) c) ≡ visitMut g c
     mapped-cell c =
@@ -184,7 +165,7 @@ module _ (d : Netlist) (rank : ℕ → ℕ) (normal : Normal d rank) where
           go : (f : Found) → seek (r .cache) c ≡ f → f ≡ Nothing
           go Nothing e = refl
           go (At n) e =
-              let k : Cached before c = seek-finds (Cached before) (r .cache) c n (st .known) e in
+              let k : Cached before c = seek-finds (λ c n. Cached before c) (r .cache) c n (st .known) e in
               let same : k .slot ≡ s =
               normal .distinct (k .slot) s (k .inside) small (k .gate) (alike-both (visitMut g c) (cellIn cs (k .slot)) (cellIn cs s) (k .alike) a) in
               never (k .done) (ap (λ (x : ℕ). has x before) same ∙ new)

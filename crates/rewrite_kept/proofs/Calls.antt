@@ -10,19 +10,19 @@ use lib.ListN.{length, getD, take, drop}
 use borrow.Author.Tests.{ltb-false}
 use Rattle.logic.specs.Levels.{byteOf}
 use Rattle.cell.specs.Records.{recordsOf}
-use Rattle.netlist.specs.Netlist.{Netlist, netlistOf}
-use Rattle.order.specs.Orders.{bitDeps, topoSort}
-use Rattle.design.specs.Queue.{applied, findNewCell}
-use Rattle.levels.specs.Evaluate.{inputSlots, outputLevels}
 use Rattle.loops.proofs.Rank.{rank}
 use Rattle.checking.specs.declared.Verdict.{Verdict}
 use Rattle.checking.specs.declared.Verdict.the-variants.{Pass, Refused}
 use Rattle.checking.specs.declared.Refusal.the-variants.{LevelCount, LevelValue, ShortReply}
 use Rattle.checking.specs.Refusals.{Stage, firstOf, slotBySlot}
-use Rattle.checking.specs.Checking.{workStage, lengthStage, sizeStage, netlistStages, checkStages}
+use Rattle.checking.specs.Checking.{checkStages}
 use Rattle.checking.proofs.Stages.{later-decides, passes-both, passed-exactly}
+use Rattle.netlist.specs.Netlist.{Netlist, netlistOf}
+use Rattle.order.specs.Orders.{bitDeps, topoSort}
+use Rattle.design.specs.Queue.{applied, findNewCell}
 use Rattle.rewrite.specs.Rewriter.{Lookup}
 use Rattle.rewrite.specs.Rewrite.{slotsOf}
+use Rattle.levels.specs.Evaluate.{inputSlots, outputLevels}
 use Rattle.calls.specs.declared.Written.the-variants as written
 use Rattle.calls.specs.Answers.{writtenBy}
 use Rattle.calls.specs.Calls.{put, decoded, replyAfter, room, checkVerdict, rewriteRun, rewriteBytes, rewriteStages, rewriteVerdict, rewriteAnswer, rewriteReply, levelBytes, stimulusStages, levelVerdict, levelAnswer, levelReply}
@@ -30,7 +30,7 @@ use Rattle.order_laws.specs.Ordered.{FedAfter}
 use Rattle.accepted_laws.proofs.Accepted.{accepted-wired, accepted-fed}
 use Rattle.kept.specs.Kept.{Bytes}
 use Rattle.kept.proofs.Sound.{Sound}
-use Rattle.kept.proofs.Tickets.{ticket-sound}
+use Rattle.kept.proofs.Tickets.{ticket-sound, ticket-passes}
 use Rattle.kept.proofs.Calls.{written-count}
 use Rattle.rewrite_sound.specs.Rewritten.{Rewritten}
 use Rattle.rewrite_sound.proofs.Operands.{rank as rank-of}
@@ -81,17 +81,13 @@ module _ (words : ℕ) (t u : List ℕ) (pass : checkVerdict words t ≡ Pass) (
 
 -- an accepted ticket
 module _ (words : ℕ) (t : List ℕ) (pass : checkVerdict words t ≡ Pass) where
-  records-accepted : firstOf (netlistStages (recordsOf t)) ≡ Pass
-  unfolding checkVerdict checkStages
-  records-accepted = passes-both (workStage words ∷ lengthStage t ∷ sizeStage t ∷ []) (netlistStages (recordsOf t)) pass .1
-
   ticket-fed : FedAfter (length (decoded t .cells)) (bitDeps (decoded t .cells)) [] (topoSort (decoded t .cells))
   unfolding netlistOf
-  ticket-fed = accepted-fed (recordsOf t) records-accepted
+  ticket-fed = accepted-fed (recordsOf t) (ticket-passes words t pass)
 
   pub ticket-looks : Looks findNewCell (decoded t .cells)
   unfolding netlistOf
-  ticket-looks = rust-looks (decoded t .cells) (accepted-wired (recordsOf t) records-accepted)
+  ticket-looks = rust-looks (decoded t .cells) (accepted-wired (recordsOf t) (ticket-passes words t pass))
 
   -- its rewriting, with any look-up that gives cells of the right level
   pub rewritten-kept : (look : Lookup) → Looks look (decoded t .cells) → RunsOn look t → slotsOf (rewriteRun look t) ≤ 1024 → (u : List ℕ) → Rewritten look words t u
@@ -135,7 +131,7 @@ module _ (look : Lookup) (words : ℕ) (t reply : List ℕ) (runs : checkVerdict
   unfolding rewriteAnswer rewriteVerdict rewriteStages checkVerdict
   rewrite-call-kept n bytes e =
       let v : Verdict = rewriteVerdict look words t reply in
-      let a = written-count words t reply v (length (rewriteBytes look t)) n e in
+      let a = written-count v (length (rewriteBytes look t)) n e in
       let stages = passes-both (checkStages words t) (rewriteStages look t reply) (a .0) in
       let few : slotsOf (rewriteRun look t) ≤ 1024 = ltb-false 1024 (slotsOf (rewriteRun look t)) (passed-exactly (rewriteStages look t reply) .0 (stages .1) 0 (omega arith)) in
       rewritten-kept words t (stages .0) look (looks (stages .0)) (runs (stages .0)) few (take n (rewriteReply look words t reply))

@@ -1,14 +1,14 @@
 -- Levels of all nets that fit a rewriter: those of the finished slots are right. A finished slot is never changed, so levels that fit a later
 -- rewriter fit an earlier one. Replacements do not change levels, so cells that are looked up have the levels of their nets. Assumes nothing.
 use mathlib.Core.Path.{_≡_, refl, sym, ap, _∙_, subst}
-use mathlib.Core.Bool.{Bool, true, false, cond, false≢true}
+use mathlib.Core.Bool.{Bool, true, false, cond}
 use mathlib.Core.List.{List, [], _∷_, _++_}
 use mathlib.Core.Logic.{inl, inr}
-use Prim.Native.Nat.{ℕ, zero, suc, _≤_, _<_}
+use Prim.Native.Nat.{ℕ, suc, _≤_, _<_}
 use native.Mathlib.Omega.{arith}
 use lib.Dec.{eqb, ltb}
 use lib.ListN.{length, getD, length-append, List·getD-append, List·getD-eq-default}
-use lib.Seq.{getD-set-same, getD-set-other}
+use lib.Seq.{getD-set-same, getD-set-other, getD-append-seam}
 use borrow.Author.Tests.{eqb-false, ltb-true, ltb-false}
 use Rattle.logic.specs.declared.Trit.{Trit}
 use Rattle.logic.specs.declared.Trit.the-variants.{Undef}
@@ -16,34 +16,24 @@ use Rattle.value.specs.declared.Net.{Net}
 use Rattle.value.specs.declared.Slot.{Slot}
 use Rattle.value.specs.declared.Driver.{Driver}
 use Rattle.value.specs.declared.Driver.the-variants as driven
-use Rattle.value.specs.Value.{eqNet, driver}
+use Rattle.value.specs.Value.{driver}
+use Rattle.value.proofs.Laws.{cell-driver}
 use Rattle.cell.specs.declared.Cell.{Cell}
-use Rattle.cell.specs.declared.Cell.the-variants.{Input, Output, Buf, Not, And, Or, Xor, Mux, Aig}
+use Rattle.cell.specs.declared.Cell.the-variants.{Input}
 use Rattle.netlist.specs.Shape.{visit, visitMut, isInput}
 use Rattle.netlist.specs.Netlist.{cellIn}
 use Rattle.design.specs.declared.Source.the-variants.{Opaque}
-use Rattle.design.specs.Queue.{Design, Entry, netIn, drivenTo, followed, mapNetNew, sourceIn, findNewCell}
+use Rattle.design.specs.Queue.{Design, Entry, netIn, drivenTo, mapNetNew, sourceIn, findNewCell}
 use Rattle.rewrite.specs.Rewriter.{Rewriter, stamp, findCell, entered, finished}
-use Rattle.order_laws.proofs.Walks.{either}
+use Rattle.order_laws.proofs.Truth.{either}
+use Rattle.order_laws.proofs.Members.{all-every}
+use Rattle.order_laws.proofs.Queue.{mapped-keeps, replacement}
+use Rattle.rewrite_laws.proofs.Settled.{limit, stamped-inside, tickets, SettledSlot, Settled, StandsFor, Inv, map-settled, stamped-settled}
+use Rattle.accepted_laws.proofs.Final.{Final, mapNetNew-final}
 use Rattle.levels_laws.specs.Algebra.{cellValue}
 use Rattle.levels_laws.specs.Instances.{kleene}
-use Rattle.levels_laws.proofs.Operands.{all-every, cell-same, cell-visitMut, cell-own}
-use Rattle.rewrite_laws.proofs.Settled.{limit, stamped-inside, tickets, SettledSlot, SettledBy, Settled, StandsFor, Inv, map-settled, stamped-settled}
-use Rattle.rewrite_laws.proofs.Steps.{getD-last}
-use Rattle.accepted_laws.proofs.Final.{driver-slot, Final, mapNetNew-final}
+use Rattle.levels_laws.proofs.Operands.{cell-same, cell-visitMut, cell-own, input-own}
 use Rattle.rewrite_kept.specs.Outcomes.{gateLevel, SourceFits}
-
-pub input-own : (v : Net → Trit) (own : Trit) (c : Cell) → isInput c ≡ true → own ≡ cellValue kleene v own c
-unfolding cellValue
-input-own v own (Input l) e = refl
-input-own v own (Output a l) e = absurd (false≢true e)
-input-own v own (Buf a) e = absurd (false≢true e)
-input-own v own (Not a) e = absurd (false≢true e)
-input-own v own (And a b) e = absurd (false≢true e)
-input-own v own (Or a b) e = absurd (false≢true e)
-input-own v own (Xor a b) e = absurd (false≢true e)
-input-own v own (Mux a b c) e = absurd (false≢true e)
-input-own v own (Aig p q) e = absurd (false≢true e)
 
 -- a function that keeps levels, put to each operand
 pub mapped-level : (v : Net → Trit) (f : Net → Net) → ((n : Net) → v (f n) ≡ v n) → (own : Trit) (c : Cell)
@@ -88,9 +78,9 @@ module _ (v : Net → Trit) where
       pub entered-level : isInput c ≡ false → v (netIn last) ≡ gateLevel v c
       unfolding entered
       entered-level e =
-          let here : getD (r .stamps ++ (suc (r .clock) ∷ [])) last 0 ≡ suc (r .clock) = rw (sym (inv .sizes)) (getD-last (r .stamps) (suc (r .clock)) 0) in
+          let here : getD (r .stamps ++ (suc (r .clock) ∷ [])) last 0 ≡ suc (r .clock) = rw (sym (inv .sizes)) (getD-append-seam (r .stamps) (suc (r .clock)) [] 0) in
           fits .slots last (omega (arith, here)) .level (List·getD-eq-default (r .design .replaced) (netIn last) {n = last} (omega (arith, inv .wide, inv .many)))
-          ∙ ap (cellValue kleene v (v (netIn last))) (getD-last (r .design .cells) c (Input 0))
+          ∙ ap (cellValue kleene v (v (netIn last))) (getD-append-seam (r .design .cells) c [] (Input 0))
           ∙ cell-own kleene v (v (netIn last)) Undef c e
 
     -- back over a finished slot
@@ -117,7 +107,7 @@ module _ (v : Net → Trit) where
       abbrev rs : List Net
       rs = r .design .replaced
 
-      step-same : (m : Net) → v (drivenTo rs m (driver m)) ≡ v m
+      step-same : (m : Net) → v (replacement rs m) ≡ v m
       step-same m = go (driver m) refl
         where
           slot : (s : Slot) → m ≡ netIn (s .0) → StandsFor cs₀ (r .stamps) (s .0) (getD rs (s .0) m) → v (getD rs (s .0) m) ≡ v m
@@ -127,30 +117,19 @@ module _ (v : Net → Trit) where
           go : (x : Driver) → driver m ≡ x → v (drivenTo rs m (driver m)) ≡ v m
           go (driven.Const t) e = rw e
           go (driven.Cell s) e = rw e (either (ltb (s .0) (tickets cs₀))
-              (λ l. slot s (driver-slot m s e) (inv .stands (s .0) m (ltb-true (s .0) (tickets cs₀) l)))
+              (λ l. slot s (cell-driver m s e) (inv .stands (s .0) m (ltb-true (s .0) (tickets cs₀) l)))
               (λ l. ap v (List·getD-eq-default rs m {n = s .0} (omega (arith, inv .wide, ltb-false (s .0) (tickets cs₀) l)))))
 
-      followed-same : (k : ℕ) (m : Net) → v (followed k rs m) ≡ v m
-      unfolding followed
-      followed-same zero m = refl
-      followed-same (suc k) m = go (eqNet (drivenTo rs m (driver m)) m) (followed-same k (drivenTo rs m (driver m)))
-        where
-          go : (b : Bool) → v (followed k rs (drivenTo rs m (driver m))) ≡ v (drivenTo rs m (driver m))
-              → v (cond b m (followed k rs (drivenTo rs m (driver m)))) ≡ v m
-          go true ih = refl
-          go false ih = ih ∙ step-same m
-
       pub map-same : (m : Net) → v (mapNetNew rs m) ≡ v m
-      unfolding mapNetNew
-      map-same m = followed-same (length rs) m
+      map-same m = mapped-keeps rs (λ n. v n ≡ v m) (λ n e. step-same n ∙ e) m refl
 
       -- the Rust's look-up gives a cell of the net's level
       slot-fits : (n m : Net) (s : Slot) → v m ≡ v n → driver m ≡ driven.Cell s → drivenTo rs m (driver m) ≡ m → SettledSlot cs₀ (r .stamps) (s .0)
           → v n ≡ cellValue kleene v (v n) (cellIn (r .design .cells) (s .0))
       slot-fits n m s e d f (inl i) =
-          input-own v (v n) (cellIn (r .design .cells) (s .0)) (ap isInput (inv .untouched (s .0) (i .0) (inv .inputs (s .0) (i .0) (i .1))) ∙ i .1)
+          sym (input-own kleene v (v n) (cellIn (r .design .cells) (s .0)) (ap isInput (inv .untouched (s .0) (i .0) (inv .inputs (s .0) (i .0) (i .1))) ∙ i .1))
       slot-fits n m s e d f (inr p) =
-          let is : m ≡ netIn (s .0) = driver-slot m s d in
+          let is : m ≡ netIn (s .0) = cell-driver m s d in
           let final : getD rs (s .0) m ≡ m = sym (ap (drivenTo rs m) d) ∙ f in
           let k : v (netIn (s .0)) ≡ v n = ap v (sym is) ∙ e in
           subst (λ (t : Trit). t ≡ cellValue kleene v t (cellIn (r .design .cells) (s .0))) k
@@ -158,14 +137,11 @@ module _ (v : Net → Trit) where
 
       pub new-cell-fits : (n : Net) → Settled cs₀ (r .stamps) n → SourceFits v n (findNewCell (r .design) n)
       unfolding findNewCell Settled
-      new-cell-fits n h = go (mapNetNew rs n) (map-same n) (mapNetNew-final cs₀ r inv n) (map-settled cs₀ r inv (fits .few) n h)
+      new-cell-fits n h = by (mapNetNew rs n) (map-same n) (mapNetNew-final cs₀ r inv n) (map-settled cs₀ r inv n h) (driver (mapNetNew rs n)) refl
         where
-          by : (m : Net) → v m ≡ v n → Final cs₀ r inv m → (x : Driver) → driver m ≡ x → SettledBy cs₀ (r .stamps) x → SourceFits v n (sourceIn (r .design .cells) x)
-          by m e f (driven.Const t) d k = tt
-          by m e f (driven.Cell s) d k = slot-fits n m s e d f k
-
-          go : (m : Net) → v m ≡ v n → Final cs₀ r inv m → SettledBy cs₀ (r .stamps) (driver m) → SourceFits v n (sourceIn (r .design .cells) (driver m))
-          go m e f k = by m e f (driver m) refl k
+          by : (m : Net) → v m ≡ v n → Final cs₀ r inv m → Settled cs₀ (r .stamps) m → (x : Driver) → driver m ≡ x → SourceFits v n (sourceIn (r .design .cells) x)
+          by m e f k (driven.Const t) d = tt
+          by m e f k (driven.Cell s) d = slot-fits n m s e d f (k s d)
 
       pub found-fits : (n : Net) → SourceFits v n (findCell findNewCell r n)
       unfolding findCell
@@ -173,4 +149,4 @@ module _ (v : Net → Trit) where
         where
           go : (b : Bool) → eqb (stamp (r .stamps) n) 0 ≡ b → SourceFits v n (cond b Opaque (findNewCell (r .design) n))
           go true e = tt
-          go false e = new-cell-fits n (stamped-settled cs₀ r inv (fits .few) n (omega (arith, eqb-false (stamp (r .stamps) n) 0 e)))
+          go false e = new-cell-fits n (stamped-settled cs₀ r inv n (omega (arith, eqb-false (stamp (r .stamps) n) 0 e)))

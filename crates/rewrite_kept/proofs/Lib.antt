@@ -1,4 +1,5 @@
 pub mod Tables
+pub mod Levels
 pub mod Rules
 pub mod Processing
 pub mod Fitted

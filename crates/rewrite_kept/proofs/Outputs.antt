@@ -19,18 +19,20 @@ use Rattle.netlist.specs.Shape.{isInput, isOutput, hasEffects}
 use Rattle.netlist.specs.Netlist.{cellIn, slots}
 use Rattle.order.specs.Orders.{bitDeps, topoSort}
 use Rattle.design.specs.Queue.{netIn, applied}
-use Rattle.levels.specs.Evaluate.{levels, givenLevels, outputSlots, outputLevels}
 use Rattle.rewrite.specs.Rewriter.{Rewriter, Lookup}
+use Rattle.levels.specs.Evaluate.{levels, givenLevels, outputSlots, outputLevels}
 use Rattle.order_laws.specs.Ordered.{FedAfter}
-use Rattle.order_laws.proofs.Walks.{either, or-right}
-use Rattle.levels_laws.specs.Algebra.{All, cellValue, Fits, Ranked}
-use Rattle.levels_laws.specs.Instances.{kleene}
-use Rattle.levels_laws.proofs.Operands.{all-imp, all-both, cell-own}
-use Rattle.levels_laws.proofs.Levels.{levels-fit}
+use Rattle.order_laws.specs.Members.{All}
+use Rattle.order_laws.proofs.Truth.{either, or-right}
+use Rattle.order_laws.proofs.Members.{all-imp, all-both, those-pass, all-those, all-tabulate}
+use Rattle.order_laws.proofs.Queue.{applied-length}
+use Rattle.order_laws.proofs.Sorts.{gate-parts}
 use Rattle.rewrite_laws.proofs.Settled.{Inv}
-use Rattle.rewrite_laws.proofs.Running.{gate-not-input}
-use Rattle.kept.proofs.Lists.{those-pass, all-those, all-tabulate}
-use Rattle.rewrite_sound.proofs.Operands.{applied-length, port-stays}
+use Rattle.levels_laws.specs.Algebra.{cellValue, Fits, Ranked}
+use Rattle.levels_laws.specs.Instances.{kleene}
+use Rattle.levels_laws.proofs.Operands.{cell-own}
+use Rattle.levels_laws.proofs.Levels.{levels-fit}
+use Rattle.rewrite_sound.proofs.Operands.{port-stays}
 use Rattle.rewrite_sound.proofs.Ports.{more-slots, outputs-stay, given-stays}
 use Rattle.rewrite_sound.proofs.Result.{Ran}
 use Rattle.rewrite_kept.specs.Outcomes.{Constants}
@@ -108,7 +110,7 @@ module _ (look : Lookup) (cs₀ : List Cell) (looks : Looks look cs₀) (fed : F
   -- inputs and outputs stand in their slots
   module _ (s : ℕ) (l : s < length cs₀) (e : hasEffects (cellIn cs₀ s) ≡ true) where
     inside : s < length (r .design .cells)
-    inside = omega (arith, more-slots cs₀ r (x .ended), applied-length r)
+    inside = omega (arith, more-slots cs₀ r (x .ended), applied-length (r .design))
 
     itself : getD (r .design .replaced) s (netIn s) ≡ netIn s
     itself = unstamped cs₀ r inv (x .ended .few) (own cs) (level cs) fits′ s l (x .ended .shaped .ports s l e)
@@ -130,7 +132,7 @@ module _ (look : Lookup) (cs₀ : List Cell) (looks : Looks look cs₀) (fed : F
   each s l =
       either (hasEffects (cellIn cs₀ s))
       (λ e. subst (Refines (v (netIn s))) (port-cell s l e) (refines-refl (v (netIn s))))
-      (λ e. subst (Refines (v (netIn s))) (cell-own kleene v Undef (own cs₀ s) (cellIn cs₀ s) (gate-not-input (cellIn cs₀ s) e)) (gate-refined s l e))
+      (λ e. subst (Refines (v (netIn s))) (cell-own kleene v Undef (own cs₀ s) (cellIn cs₀ s) (gate-parts (cellIn cs₀ s) e .0)) (gate-refined s l e))
 
   output-refined : (s : ℕ) → s < length cs₀ → isOutput (cellIn cs₀ s) ≡ true → Refines (level cs s) (level cs₀ s)
   unfolding hasEffects

@@ -15,11 +15,11 @@ use Rattle.design.specs.declared.Found.the-variants.{Nothing, At}
 use Rattle.design.specs.Queue.{netIn, seek}
 use Rattle.normalize.specs.declared.Outcome.{Outcome}
 use Rattle.normalize.specs.declared.Outcome.the-variants.{None, Value, Form, Add, NotOf, AddNotOf}
-use Rattle.aig_laws.specs.Reads.{GoodOutcome}
 use Rattle.rewrite.specs.Rewriter.{Rewriter, Lookup, entered}
 use Rattle.rewrite.specs.Rewrite.{rules, Result, none, cell, value, spent, Added, at, unadded, asValue, asNot, addNot, perform, enter, asked, replacing, goOn, process, processCell, addCell}
-use Rattle.levels_laws.specs.Algebra.{cellValue}
+use Rattle.aig_laws.specs.Reads.{GoodOutcome}
 use Rattle.rewrite_laws.proofs.Kept.{Keeps, KeptResult, KeptAdded, enter-kept, process-kept}
+use Rattle.levels_laws.specs.Algebra.{cellValue}
 use Rattle.rewrite_kept.specs.Outcomes.{gateLevel, Refining}
 
 -- P, Q, N are what processing keeps (`Keeps`). The rules refine, the cache answers with nets of the right level, and F goes back over an entry

@@ -15,15 +15,17 @@ use Rattle.value.specs.declared.ControlNet.the-variants.{Pos, Neg}
 use Rattle.value.specs.declared.Driver.{Driver}
 use Rattle.value.specs.declared.Driver.the-variants as driven
 use Rattle.value.specs.Value.{driver, net}
+use Rattle.value.proofs.Laws.{cell-driver}
 use Rattle.cell.specs.declared.Cell.{Cell}
 use Rattle.cell.specs.declared.Cell.the-variants.{Input, Output, Buf, Not, And, Or, Xor, Mux, Aig}
 use Rattle.netlist.specs.Shape.{visit}
 use Rattle.netlist.specs.Netlist.{cellIn}
 use Rattle.design.specs.Queue.{netIn}
-use Rattle.levels_laws.specs.Algebra.{All, netValue, controlValue, cellValue, Fits, Before, Ranked}
+use Rattle.order_laws.specs.Members.{All}
+use Rattle.order_laws.proofs.Members.{all-imp}
+use Rattle.levels_laws.specs.Algebra.{netValue, controlValue, cellValue, Fits, Before, Ranked}
 use Rattle.levels_laws.specs.Instances.{kleene}
-use Rattle.levels_laws.proofs.Operands.{all-imp, value-const, value-slot}
-use Rattle.accepted_laws.proofs.Final.{driver-slot}
+use Rattle.levels_laws.proofs.Operands.{value-const, value-slot}
 use Rattle.rewrite_kept.specs.Outcomes.{Constants}
 
 -- a cell's level is monotone in those of its operands
@@ -52,7 +54,7 @@ module _ (cs : List Cell) (rank : ℕ → ℕ) (ranked : Ranked cs rank) (v : Ne
     where
       go : (d : Driver) → driver n ≡ d → Refines (v n) (netValue kleene ls n)
       go (driven.Const t) e = rw (consts n t e, value-const kleene ls n t e) (refines-refl t)
-      go (driven.Cell x) e = rw (value-slot kleene ls n x e) (subst (λ (m : Net). Refines (v m) (ls (x .0))) (sym (driver-slot n x e)) (h x e))
+      go (driven.Cell x) e = rw (value-slot kleene ls n x e) (subst (λ (m : Net). Refines (v m) (ls (x .0))) (sym (cell-driver n x e)) (h x e))
 
   below : (k s : ℕ) → rank s < k → s < length cs → Refines (v (netIn s)) (ls s)
   unfolding Ranked Fits

@@ -1,40 +1,41 @@
 -- The run keeps levels: where levels fit the rewriter at the end, each gate of the ticket has a level that its net still has, if it was 0 or 1.
 -- Assumes nothing.
 use mathlib.Core.Path.{_≡_, refl, sym, ap, _∙_, subst}
-use mathlib.Core.Bool.{Bool, true, false, cond, true≢false, false≢true}
+use mathlib.Core.Bool.{true, false, false≢true}
 use mathlib.Core.List.{List, [], _∷_, _++_}
 use mathlib.Core.Logic.{_⊎_, inl, inr}
 use Prim.Native.Nat.{ℕ, _≤_, _<_}
 use native.Mathlib.Omega.{arith}
-use lib.Dec.{eqb}
 use lib.ListN.{length, getD, length-append, length-set}
 use lib.Seq.{getD-set-same, getD-set-other}
-use borrow.Author.Tests.{eqb-true}
 use Rattle.logic.specs.declared.Trit.{Trit}
 use Rattle.logic.specs.declared.Trit.the-variants.{Undef}
 use Rattle.logic.specs.Levels.{Refines}
 use Rattle.value.specs.declared.Net.{Net}
 use Rattle.cell.specs.declared.Cell.{Cell}
 use Rattle.cell.specs.declared.Cell.the-variants.{Input}
-use Rattle.netlist.specs.Shape.{visit, visitMut, isInput, isSplittable, hasEffects}
+use Rattle.netlist.specs.Shape.{visit, visitMut, hasEffects}
 use Rattle.netlist.specs.Netlist.{cellIn}
 use Rattle.order.specs.Orders.{bitDeps, topoSort}
 use Rattle.design.specs.declared.Found.the-variants.{At}
-use Rattle.design.specs.Queue.{Design, Entry, netIn, mapNetNew, findNewCell, replaceNet, replaceCell, eqCell, seek}
+use Rattle.design.specs.Queue.{Design, Entry, netIn, mapNetNew, findNewCell, replaceNet, replaceCell, seek}
 use Rattle.rewrite.specs.Rewriter.{Rewriter, Lookup, begun, findCell, entered, finished}
-use Rattle.rewrite.specs.Rewrite.{Result, none, cell, value, spent, Added, at, unadded, processCell, addCell, Run, ran, stuck, bitDone, cellDone, runItem, andThen, runItems, run}
-use Rattle.order_laws.specs.Ordered.{has, OnceAfter, FedAfter}
-use Rattle.order_laws.proofs.Walks.{either, never, eqb-self, or-left, or-right, or-none}
+use Rattle.rewrite.specs.Rewrite.{Result, none, cell, value, spent, Added, at, unadded, processCell, addCell, Run, ran, stuck, bitDone, cellDone, runItem, run}
+use Rattle.order_laws.specs.Ordered.{has, FedAfter}
+use Rattle.order_laws.specs.Members.{All, Wired}
 use Rattle.order_laws.proofs.Bits.{topoSort-each}
-use Rattle.aig_laws.specs.Reads.{Nets}
+use Rattle.order_laws.proofs.Truth.{never}
+use Rattle.order_laws.proofs.Queue.{seek-snoc}
+use Rattle.order_laws.proofs.Sorts.{gate-parts}
+use Rattle.order_laws.proofs.Members.{has-snoc}
+use Rattle.rewrite_laws.proofs.Kept.{Keeps, KeptResult, KeptAdded, processCell-kept, addCell-kept}
+use Rattle.rewrite_laws.proofs.Settled.{limit, tickets, StandsFor, Inv}
+use Rattle.rewrite_laws.proofs.Keeping.{State, P, Q, N, keeping}
+use Rattle.rewrite_laws.proofs.Running.{RunOk, c-effects, c-settled, item-ok, begun-state}
+use Rattle.rewrite_laws.proofs.Items.{Along, FewSlots, Next, few-item, gate-done, item-by, port-done, run-along}
 use Rattle.levels_laws.specs.Algebra.{cellValue}
 use Rattle.levels_laws.specs.Instances.{kleene}
 use Rattle.levels_laws.proofs.Operands.{cell-own}
-use Rattle.rewrite_laws.proofs.Kept.{Keeps, KeptResult, KeptAdded, processCell-kept, addCell-kept}
-use Rattle.rewrite_laws.proofs.Grows.{Grows, GrowsRun, runItems-grows}
-use Rattle.rewrite_laws.proofs.Settled.{limit, tickets, StandsFor, Inv}
-use Rattle.rewrite_laws.proofs.Running.{Few, Wired, State, RunOk, seek-snoc, effect-none, splittable-gate, gate-not-input, P, Q, N, keeping, c-effects, c-settled, item-ok, begun-state}
-use Rattle.kept.proofs.Merge.{cell-equal}
 use Rattle.rewrite_kept.specs.Outcomes.{gateLevel, Constants, SourceFits}
 use Rattle.rewrite_kept.proofs.Rules.{rules-good}
 use Rattle.rewrite_kept.proofs.Processing.{Fitting, LeadsResult, LeadsAdded, processCell-leads, addCell-leads}
@@ -48,7 +49,7 @@ pub record Looks (look : Lookup) (cs₀ : List Cell) : Type 0 where
   pub fits : (v : Net → Trit) (r : Rewriter) → Inv cs₀ r → Fitted v r → (n : Net) → SourceFits v n (findCell look r n)
 
 -- the Rust's is one, where operands name slots other than outputs
-pub rust-looks : (cs₀ : List Cell) → ((s : ℕ) → s < tickets cs₀ → Nets (Wired cs₀) (visit (cellIn cs₀ s))) → Looks findNewCell cs₀
+pub rust-looks : (cs₀ : List Cell) → ((s : ℕ) → s < tickets cs₀ → All (Wired cs₀) (visit (cellIn cs₀ s))) → Looks findNewCell cs₀
 rust-looks cs₀ wired = record {
   keeps = keeping cs₀;
   item = item-ok cs₀ wired;
@@ -65,9 +66,9 @@ module _ (cs₀ : List Cell) (v : Net → Trit) (consts : Constants v) where
       → (x : Cell) (m : Net) → seek (es ++ ((c, n) ∷ [])) x ≡ At m → v m ≡ gateLevel v x
   cached-snoc es c n h old x m e = go (seek-snoc es (c, n) x m e)
     where
-      go : (seek es x ≡ At m) ⊎ ((eqCell c x ≡ true) × (n ≡ m)) → v m ≡ gateLevel v x
+      go : (seek es x ≡ At m) ⊎ ((c ≡ x) × (n ≡ m)) → v m ≡ gateLevel v x
       go (inl f) = old x m f
-      go (inr f) = ap v (sym (f .1)) ∙ h ∙ ap (gateLevel v) (cell-equal c x (f .0))
+      go (inr f) = ap v (sym (f .1)) ∙ h ∙ ap (gateLevel v) (f .0)
 
   -- processing, with such a look-up, after the items `before`
   module _ (look : Lookup) (looks : Looks look cs₀) (before : List ℕ) where
@@ -82,7 +83,7 @@ module _ (cs₀ : List Cell) (v : Net → Trit) (consts : Constants v) where
       back : Fitted v r × (v (netIn (length (r .design .cells))) ≡ gateLevel v c)
       back = (
         entered-back v cs₀ r (p few .inv) c (netIn (length (r .design .cells))) fits,
-        entered-level v cs₀ r (p few .inv) c (netIn (length (r .design .cells))) fits (gate-not-input c (q few .1)),
+        entered-level v cs₀ r (p few .inv) c (netIn (length (r .design .cells))) fits (gate-parts c (q few .1) .0),
       )
 
     entered-cached : (r : Rewriter) (c : Cell) → Known r → Q cs₀ before r c → Cached (entered r c (netIn (length (r .design .cells))))
@@ -112,16 +113,20 @@ module _ (cs₀ : List Cell) (v : Net → Trit) (consts : Constants v) where
   abbrev pub Refined : ℕ → Type 0
   Refined s = hasEffects (cellIn cs₀ s) ≡ false → Refines (v (netIn s)) (gateLevel v (cellIn cs₀ s))
 
-  module _ (look : Lookup) (looks : Looks look cs₀) (wired : (s : ℕ) → s < tickets cs₀ → Nets (Wired cs₀) (visit (cellIn cs₀ s))) where
+  module _ (look : Lookup) (looks : Looks look cs₀) (wired : (s : ℕ) → s < tickets cs₀ → All (Wired cs₀) (visit (cellIn cs₀ s))) where
+    -- from levels that fit after the item s back to those before it
+    abbrev LeadsRun : Rewriter → ℕ → Run → Type 0
+    LeadsRun r s (ran r′) = Cached r′ × (Fitted v r′ → Fitted v r × Refined s)
+    LeadsRun r s (stuck r′) = Unit {0}
+
     -- an item
     module _ (before : List ℕ) (s : ℕ) (small : s < tickets cs₀) (new : has s before ≡ false)
-        (after : (d : ℕ) → has d (bitDeps cs₀ s) ≡ true → d < tickets cs₀ → has d before ≡ true) (r : Rewriter) (st : State cs₀ before r) (few : Few cs₀ r) (known : Cached r) where
+        (after : (d : ℕ) → has d (bitDeps cs₀ s) ≡ true → d < tickets cs₀ → has d before ≡ true) (r : Rewriter) (st : State cs₀ before r) (few : FewSlots r) (known : Cached r) where
       abbrev c : Cell
       c = visitMut (mapNetNew (r .design .replaced)) (cellIn (r .design .cells) s)
 
-      abbrev LeadsRun : Run → Type 0
-      LeadsRun (ran r′) = Cached r′ × (Fitted v r′ → Fitted v r × Refined s)
-      LeadsRun (stuck r′) = Unit {0}
+      abbrev Leads : Run → Type 0
+      Leads = LeadsRun r s
 
       effects : hasEffects c ≡ hasEffects (cellIn cs₀ s)
       effects = c-effects cs₀ wired before s small new after r (λ few. st) few
@@ -148,9 +153,9 @@ module _ (cs₀ : List Cell) (v : Net → Trit) (consts : Constants v) where
           (nets : (i : ℕ) (x : Net) → (i ≡ s → ⊥) → getD (d .replaced) i x ≡ getD (r′ .design .replaced) i x)
           (long : length (d .cells) ≡ length (r′ .design .cells)) (y : Trit)
           (leads : Fitted v r′ → Fitted v r × Refines y (gateLevel v c))
-          (here : Few cs₀ r′ → State cs₀ before r′ → Fitted v r → SlotFits v d s → v (netIn s) ≡ y) where
+          (here : FewSlots r′ → State cs₀ before r′ → Fitted v r → SlotFits v d s → v (netIn s) ≡ y) where
         module _ (es : List Entry) (fits : Fitted v (finished r′ s d es)) where
-          few′ : Few cs₀ r′
+          few′ : FewSlots r′
           unfolding finished
           few′ = omega (arith, fits .few, long)
 
@@ -169,11 +174,11 @@ module _ (cs₀ : List Cell) (v : Net → Trit) (consts : Constants v) where
               let h : Fitted v r × Refines y (gateLevel v c) = leads back′ in
               (h .0, λ e. rw (level-here, sym (c-level (h .0))) (h .1))
 
-        done-same : LeadsRun (ran (finished r′ s d (r′ .cache)))
+        done-same : Leads (ran (finished r′ s d (r′ .cache)))
         unfolding finished
         done-same = ((λ x m e f. k .1 x m e (back′ (r′ .cache) f)), refined (r′ .cache))
 
-        done-more : (e : Cell) → gateLevel v e ≡ y → LeadsRun (ran (finished r′ s d (r′ .cache ++ ((e, netIn s) ∷ []))))
+        done-more : (e : Cell) → gateLevel v e ≡ y → Leads (ran (finished r′ s d (r′ .cache ++ ((e, netIn s) ∷ []))))
         unfolding finished
         done-more e q =
             let es : List Entry = r′ .cache ++ ((e, netIn s) ∷ []) in
@@ -181,7 +186,7 @@ module _ (cs₀ : List Cell) (v : Net → Trit) (consts : Constants v) where
 
       -- its net is replaced
       replaced-leads : (n : Net) (r′ : Rewriter) → Known look looks before r′ → (Fitted v r′ → Fitted v r × Refines (v n) (gateLevel v c))
-          → LeadsRun (ran (finished r′ s (replaceNet (r′ .design) s n) (r′ .cache)))
+          → Leads (ran (finished r′ s (replaceNet (r′ .design) s n) (r′ .cache)))
       replaced-leads n r′ k leads =
           done-same r′ k (replaceNet (r′ .design) s n) (λ i h. refl) (λ i x h. getD-set-other (r′ .design .replaced) s i n x h) refl (v n) leads
           (λ few′ st′ f h. h .stands ∙ ap v (getD-set-same (r′ .design .replaced) s n (netIn s) (omega (arith, small, st′ .inv .wide))))
@@ -194,99 +199,74 @@ module _ (cs₀ : List Cell) (v : Net → Trit) (consts : Constants v) where
 
       bit-leads : (y : Added) → KeptAdded look (Known look looks before) (Q cs₀ before) (N cs₀ before) (keeping-levels look looks before) y
           → LeadsAdded look (Known look looks before) (Q cs₀ before) (N cs₀ before) (keeping-levels look looks before) v (Fitted v) (fitting-levels look looks before) r (gateLevel v c) y
-          → LeadsRun (bitDone s y)
+          → Leads (bitDone s y)
       bit-leads (at n r′) k h = replaced-leads n r′ (k .0) h
       bit-leads (unadded r′) k h = tt
 
-      cell-leads : hasEffects c ≡ false → (y : Result) → Kept y → Led y → LeadsRun (cellDone s c y)
-      cell-leads e (none r′) k h = go (hasEffects c) e
-        where
-          input : isInput (cellIn cs₀ s) ≡ false
-          input = gate-not-input (cellIn cs₀ s) (sym effects ∙ e)
-
-          go : (b : Bool) → b ≡ false → LeadsRun (ran (cond b r′ (finished r′ s (r′ .design) (r′ .cache ++ ((c, netIn s) ∷ [])))))
-          go true q = absurd (true≢false q)
-          go false q =
-              done-more r′ (k .kept) (r′ .design) (λ i h. refl) (λ i x h. refl) refl (gateLevel v c) h
-              (λ few′ st′ f g. g .level (unreplaced r′ st′)
-              ∙ ap (cellValue kleene v (v (netIn s))) (st′ .inv .untouched s small (st′ .waiting s small new))
-              ∙ cell-own kleene v (v (netIn s)) Undef (cellIn cs₀ s) input ∙ sym (c-level f))
-              c refl
+      cell-leads : hasEffects c ≡ false → (y : Result) → Kept y → Led y → Leads (cellDone s c y)
+      cell-leads e (none r′) k h =
+          gate-done s r′ c Leads e
+          (done-more r′ (k .kept) (r′ .design) (λ i h. refl) (λ i x h. refl) refl (gateLevel v c) h
+          (λ few′ st′ f g. g .level (unreplaced r′ st′)
+          ∙ ap (cellValue kleene v (v (netIn s))) (st′ .inv .untouched s small (st′ .waiting s small new))
+          ∙ cell-own kleene v (v (netIn s)) Undef (cellIn cs₀ s) (gate-parts (cellIn cs₀ s) (sym effects ∙ e) .0) ∙ sym (c-level f))
+          c refl)
       cell-leads e (cell d r′) k h =
           done-more r′ (k .kept) (replaceCell (r′ .design) s d) (λ i h. getD-set-other (r′ .design .cells) s i d (Input 0) h) (λ i x h. refl)
           (length-set (r′ .design .cells) s d) (gateLevel v d) h
           (λ few′ st′ f g. g .level (unreplaced r′ st′)
           ∙ ap (cellValue kleene v (v (netIn s))) (getD-set-same (r′ .design .cells) s d (Input 0) (omega (arith, small, st′ .inv .many)))
-          ∙ cell-own kleene v (v (netIn s)) Undef d (gate-not-input d (k .good few′ .1)))
+          ∙ cell-own kleene v (v (netIn s)) Undef d (gate-parts d (k .good few′ .1) .0))
           d refl
       cell-leads e (value n r′) k h = replaced-leads n r′ (k .0) h
       cell-leads e (spent r′) k h = tt
 
-      effect-leads : hasEffects c ≡ true → LeadsRun (cellDone s c (processCell look r c))
-      effect-leads e =
-          let nothing : processCell look r c ≡ none r = effect-none look r c e (λ m f. never e (st .known c m f .1)) in
-          rw nothing (go (hasEffects c) e)
-        where
-          go : (b : Bool) → b ≡ true → LeadsRun (ran (cond b r (finished r s (r .design) (r .cache ++ ((c, netIn s) ∷ [])))))
-          go true q = (known, λ f. (f, λ g. never e (effects ∙ g)))
-          go false q = absurd (false≢true q)
+      pub item-leads : Leads (runItem look s r)
+      item-leads =
+          let p : Known look looks before r = ((λ few. st), known) in
+          item-by look s r Leads
+          (λ b e. bit-leads (addCell look r c) (addCell-kept look (Known look looks before) (Q cs₀ before) (N cs₀ before) (keeping-levels look looks before) r c p (settled e))
+          (addCell-leads look (Known look looks before) (Q cs₀ before) (N cs₀ before) (keeping-levels look looks before) v (Fitted v) (fitting-levels look looks before) r c p (settled e)))
+          (λ e. port-done s r c Leads look e (λ m f. never e (st .known c m f .1)) (known, λ f. (f, λ g. never e (effects ∙ g))))
+          (λ b e. cell-leads e (processCell look r c)
+          (processCell-kept look (Known look looks before) (Q cs₀ before) (N cs₀ before) (keeping-levels look looks before) r c p (settled e))
+          (processCell-leads look (Known look looks before) (Q cs₀ before) (N cs₀ before) (keeping-levels look looks before) v (Fitted v) (fitting-levels look looks before) r c p (settled e)))
 
-      pub item-leads : LeadsRun (runItem look s r)
-      unfolding runItem
-      item-leads = go (isSplittable c) refl (hasEffects c) refl
-        where
-          p : Known look looks before r
-          p = ((λ few. st), known)
+    -- after the items `before`: their gates have levels that their nets still have, where levels fit
+    record After (before : List ℕ) (r : Rewriter) : Type 0 where
+      state : State cs₀ before r
+      cached : Cached r
+      refined : Fitted v r → (s : ℕ) → has s before ≡ true → Refined s
 
-          go : (b : Bool) → isSplittable c ≡ b → (e : Bool) → hasEffects c ≡ e
-              → LeadsRun (cond b (bitDone s (addCell look r c)) (cellDone s c (processCell look r c)))
-          go true b e g =
-              let q : Q cs₀ before r c = settled (splittable-gate c b) in
-              bit-leads (addCell look r c) (addCell-kept look (Known look looks before) (Q cs₀ before) (N cs₀ before) (keeping-levels look looks before) r c p q)
-              (addCell-leads look (Known look looks before) (Q cs₀ before) (N cs₀ before) (keeping-levels look looks before) v (Fitted v) (fitting-levels look looks before) r c p q)
-          go false b true g = effect-leads g
-          go false b false g =
-              cell-leads g (processCell look r c) (processCell-kept look (Known look looks before) (Q cs₀ before) (N cs₀ before) (keeping-levels look looks before) r c p (settled g))
-              (processCell-leads look (Known look looks before) (Q cs₀ before) (N cs₀ before) (keeping-levels look looks before) v (Fitted v) (fitting-levels look looks before) r c p (settled g))
-
-    -- the items in their order
-    pub items-lead : (ss before : List ℕ) (r r′ : Rewriter) → State cs₀ before r → Cached r → OnceAfter before ss → FedAfter (tickets cs₀) (bitDeps cs₀) before ss
-        → ((s : ℕ) → has s ss ≡ true → s < tickets cs₀) → runItems look ss r ≡ ran r′ → Few cs₀ r′ → Fitted v r′
-        → Fitted v r × ((s : ℕ) → has s ss ≡ true → Refined s)
-    unfolding runItems has OnceAfter FedAfter
-    items-lead [] before r r′ st known o f l e few fits =
-        let same : r ≡ r′ = cc in
-        (subst (Fitted v) (sym same) fits, λ s h. absurd (false≢true h))
-    items-lead (s ∷ ss) before r r′ st known o f l e few fits =
-        let small : s < tickets cs₀ = l s (or-left (eqb s s) (has s ss) (eqb-self s)) in
-        let later : (x : ℕ) → has x ss ≡ true → x < tickets cs₀ = λ x h. l x (or-right (eqb x s) (has x ss) h) in
-        let few₀ : Few cs₀ r = few-from (s ∷ ss) l r e in
-        go (runItem look s r) (looks .item before s small (o .0) (f .0) r (λ few. st)) (item-leads before s small (o .0) (f .0) r st few₀ known) e later
-        (λ r₁ st₁ known₁ e₁. items-lead ss (before ++ (s ∷ [])) r₁ r′ st₁ known₁ (o .1) (f .1) later e₁ few fits)
+    item-after : (before : List ℕ) (s : ℕ) → Next cs₀ before s → (r : Rewriter) → (FewSlots r → After before r)
+        → Along (λ b r. FewSlots r → After b r) (λ r. FewSlots r → Unit {0}) (before ++ (s ∷ [])) (runItem look s r)
+    item-after before s n r p =
+        few-item After (λ r. Unit {0}) look (tickets cs₀) s (n .small) (before ++ (s ∷ [])) r (λ few.
+        let h : After before r = p few in
+        go (runItem look s r) h (looks .item before s (n .small) (n .new) (n .fed) r (λ few. h .state))
+        (item-leads before s (n .small) (n .new) (n .fed) r (h .state) few (h .cached)))
       where
-        few-from : (xs : List ℕ) → ((s : ℕ) → has s xs ≡ true → s < tickets cs₀) → (r₁ : Rewriter) → runItems look xs r₁ ≡ ran r′ → Few cs₀ r₁
-        few-from xs h r₁ q =
-            let g : Grows (tickets cs₀) r₁ r′ = subst (GrowsRun (tickets cs₀) r₁) q (runItems-grows look (tickets cs₀) xs h r₁) in
-            omega (arith, few, g .slots)
-
-        go : (x : Run) → RunOk cs₀ (before ++ (s ∷ [])) x → LeadsRun before s (l s (or-left (eqb s s) (has s ss) (eqb-self s))) (o .0) (f .0) r st (few-from (s ∷ ss) l r e) known x
-            → andThen (runItems look ss) x ≡ ran r′ → ((x : ℕ) → has x ss ≡ true → x < tickets cs₀)
-            → ((r₁ : Rewriter) → State cs₀ (before ++ (s ∷ [])) r₁ → Cached r₁ → runItems look ss r₁ ≡ ran r′ → Fitted v r₁ × ((s : ℕ) → has s ss ≡ true → Refined s))
-            → Fitted v r × ((x : ℕ) → has x (s ∷ ss) ≡ true → Refined x)
-        go (stuck r₁) k h q later ih = let z : _≡_ {A = ℕ} 0 1 = cc in absurd (omega arith)
-        go (ran r₁) k h q later ih =
-            let a = ih r₁ (k (few-from ss later r₁ q)) (h .0) q in
-            let b = h .1 (a .0) in (
-              b .0,
-              λ x i. either (eqb x s)
-                  (λ y. subst Refined (sym (eqb-true x s y)) (b .1))
-                  (λ y. a .1 x (sym (or-none (eqb x s) (has x ss) y) ∙ i)),
-            )
+        go : (x : Run) (h : After before r) → RunOk cs₀ (before ++ (s ∷ [])) x
+            → LeadsRun r s x
+            → Along (λ b r. FewSlots r → After b r) (λ r. FewSlots r → Unit {0}) (before ++ (s ∷ [])) x
+        go (ran r′) h ok k = λ few. record {
+          state = ok few;
+          cached = k .0;
+          refined = λ f y e. has-snoc y before s e (λ q. subst Refined (sym q) (k .1 f .1)) (h .refined (k .1 f .0) y);
+        }
+        go (stuck r′) h ok k = λ few. tt
 
     -- all of them
-    pub run-leads : FedAfter (tickets cs₀) (bitDeps cs₀) [] (topoSort cs₀) → (r : Rewriter) → run look cs₀ ≡ ran r → Few cs₀ r → Fitted v r
+    pub run-leads : FedAfter (tickets cs₀) (bitDeps cs₀) [] (topoSort cs₀) → (r : Rewriter) → run look cs₀ ≡ ran r → FewSlots r → Fitted v r
         → (s : ℕ) → s < tickets cs₀ → Refined s
-    unfolding run seek
+    unfolding has seek
     run-leads fed r e few fits s l =
-        items-lead (topoSort cs₀) [] (begun cs₀) r (begun-state cs₀ wired) (λ c n q. let z : _≡_ {A = ℕ} 0 1 = cc in absurd (omega arith))
-        (topoSort-each cs₀ .once) fed (topoSort-each cs₀ .small) e few fits .1 s (topoSort-each cs₀ .all s l)
+        subst (Along (λ b r. FewSlots r → After b r) (λ r. FewSlots r → Unit {0}) (topoSort cs₀)) e
+        (run-along cs₀ (λ b r. FewSlots r → After b r) (λ r. FewSlots r → Unit {0}) look fed item-after (λ few. begun-after)) few .refined fits s (topoSort-each cs₀ .all s l)
+      where
+        begun-after : After [] (begun cs₀)
+        begun-after = record {
+          state = begun-state cs₀;
+          cached = λ c n q. let z : _≡_ {A = ℕ} 0 1 = cc in absurd (omega arith);
+          refined = λ f y e. absurd (false≢true e);
+        }

@@ -27,11 +27,15 @@ abbrev pub SourceFits : (Net → Trit) → Net → Source → Type 0
 SourceFits v n Opaque = Unit {0}
 SourceFits v n (Known c) = v n ≡ cellValue kleene v (v n) c
 
--- an outcome for a cell of level x gives the same level, or any if x is undefined
+-- the level that an outcome gives in place of a cell of level x; none leaves the cell
+abbrev pub outcomeLevel : (Net → Trit) → Trit → Outcome → Trit
+outcomeLevel v x None = x
+outcomeLevel v x (Value n) = v n
+outcomeLevel v x (Form c) = gateLevel v c
+outcomeLevel v x (Add c) = gateLevel v c
+outcomeLevel v x (NotOf c) = notLevel (gateLevel v c)
+outcomeLevel v x (AddNotOf c) = notLevel (gateLevel v c)
+
+-- it is x, or any if x is undefined
 abbrev pub Refining : (Net → Trit) → Trit → Outcome → Type 0
-Refining v x None = Unit {0}
-Refining v x (Value n) = Refines (v n) x
-Refining v x (Form c) = Refines (gateLevel v c) x
-Refining v x (Add c) = Refines (gateLevel v c) x
-Refining v x (NotOf c) = Refines (notLevel (gateLevel v c)) x
-Refining v x (AddNotOf c) = Refines (notLevel (gateLevel v c)) x
+Refining v x o = Refines (outcomeLevel v x o) x

@@ -1,20 +1,22 @@
 -- The falling number falls at each pass over the rules and for each cell that a rule adds, for every look-up that gives operands stamped
 -- below the net. Assumes nothing.
-use mathlib.Core.Path.{_≡_, refl, sym, ap, _∙_, subst}
-use mathlib.Core.Bool.{Bool, true, false, cond, not, _&&_, _||_, true≢false, false≢true}
-use mathlib.Core.List.{List, [], _∷_}
-use Prim.Native.Nat.{ℕ, zero, suc, _+_, _*_, _≤_, _<_}
+use mathlib.Core.Path.{_≡_, sym, ap, subst}
+use mathlib.Core.Bool.{Bool, true, false, cond, not, true≢false, false≢true}
+use mathlib.Core.List.{List}
+use Prim.Native.Nat.{ℕ, _+_, _*_, _<_}
 use native.Mathlib.Omega.{arith}
+use borrow.Author.Tests.{not-true}
 use Rattle.value.specs.declared.Net.{Net}
 use Rattle.value.specs.declared.ControlNet.{ControlNet}
 use Rattle.value.specs.declared.ControlNet.the-variants.{Pos, Neg}
-use Rattle.value.specs.Value.{UNDEF, ZERO, ONE, eqNet, leNet, net, fromNetInvert, isPositive, isNegative, isAlways, notControl, eqControl, leControl}
+use Rattle.value.specs.Value.{leNet, net, fromNetInvert, isNegative, notControl, leControl}
+use Rattle.value.proofs.Order.{net-order, control-order}
 use Rattle.cell.specs.declared.Cell.{Cell}
 use Rattle.cell.specs.declared.Cell.the-variants.{Input, Output, Buf, Not, And, Or, Xor, Mux, Aig}
 use Rattle.design.specs.declared.Source.{Source}
 use Rattle.normalize.specs.declared.Outcome.{Outcome}
-use Rattle.normalize.specs.declared.Outcome.the-variants.{None, Value, Form, Add, NotOf, AddNotOf}
-use Rattle.normalize.specs.Outcomes.{_orElse_, given, eitherWay, fromControl}
+use Rattle.normalize.specs.declared.Outcome.the-variants.{Form, NotOf}
+use Rattle.normalize.specs.Outcomes.{_orElse_, given, fromControl}
 use Rattle.normalize.specs.Normalize.{normalize}
 use Rattle.aig.specs.Aig.{differ, notRule, xorOf, aigOrder, aigRule, xorOrder, xorRule, simpleAigOpt}
 use Rattle.rewrite.specs.Rewriter.{Rewriter, Lookup, rank, stamp, weight, findCell}
@@ -23,7 +25,7 @@ use Rattle.aig_laws.proofs.Strings.{HasAig, HasXor, has-orElse, has-given}
 use Rattle.aig_laws.proofs.Arms.{NotArm, not-none, not-zero, not-one, not-undef, not-not, notArm, AigArm, aig-none, aig-same, aig-opposite, aig-zero, aig-one, aig-not, and-same, and-opposite, and-and-same, and-and-opposite, nand-same, nand-opposite, nand-and-same, nand-and-opposite, nand-nand-same, nand-nand-opposite, xor-on, xor-and-on, aigArm, XorArm, xor-none, xor-same, xor-undef, xor-zero, xor-one, xor-not, xor-and, xor-nand, xor-xor, xor-both, xorArm}
 use Rattle.aig_laws.proofs.Reading.{not-source, aig-source, xor-source}
 use Rattle.rewrite_laws.specs.Stamps.{SourceBefore, Stamped, Lighter}
-use Rattle.rewrite_laws.proofs.Lightness.{leNet-total, leControl-total, not-stamp, invert-stamp, aig-lighter, xor-lighter, not-lighter, weight-aig, weight-xor, weight-and, weight-or, lighter-more}
+use Rattle.rewrite_laws.proofs.Lightness.{not-stamp, invert-stamp, aig-lighter, xor-lighter, not-lighter, weight-aig, weight-xor, weight-and, weight-or, lighter-more}
 
 -- an and-inverter, in one order of the operands
 module _ (ts : List ℕ) (a b : ControlNet) (srcA srcB : Source) (ha : SourceBefore ts (stamp ts (net a)) srcA)
@@ -130,11 +132,7 @@ module _ (look : Lookup) (r : Rewriter) (h : Stamped look r) where
   -- `Normalize`: operands that stand the wrong way round weigh one more
   exchanged-falls : {A : Type 0} (le : A → A → Bool) (rebuild : A → A → Cell) (a b : A) → ((le a b ≡ false) → weight ts (rebuild b a) < weight ts (rebuild a b))
       → Lighter ts (weight ts (rebuild a b)) (given (not (le a b)) (Form (rebuild b a)))
-  exchanged-falls le rebuild a b f = has-given (Lighter ts (weight ts (rebuild a b))) tt (not (le a b)) (Form (rebuild b a)) (λ e. f (go (le a b) e))
-    where
-      go : (t : Bool) → not t ≡ true → t ≡ false
-      go true e = absurd (false≢true e)
-      go false e = refl
+  exchanged-falls le rebuild a b f = has-given (Lighter ts (weight ts (rebuild a b))) tt (not (le a b)) (Form (rebuild b a)) (λ e. f (not-true (le a b) e))
 
   swap-falls : (s u low : ℕ) (t v : Bool) → t ≡ false → v ≡ true → 2 * (u + s) + rank v low < 2 * (s + u) + rank t low
   swap-falls s u low true v e f = absurd (true≢false e)
@@ -144,11 +142,11 @@ module _ (look : Lookup) (r : Rewriter) (h : Stamped look r) where
   pub normalize-falls : (c : Cell) → Lighter ts (weight ts c) (normalize c)
   unfolding normalize weight
   normalize-falls (Buf a) = tt
-  normalize-falls (And a b) = exchanged-falls leNet And a b (λ e. swap-falls (stamp ts a) (stamp ts b) 3 (leNet a b) (leNet b a) e (leNet-total a b e))
-  normalize-falls (Or a b) = exchanged-falls leNet Or a b (λ e. swap-falls (stamp ts a) (stamp ts b) 3 (leNet a b) (leNet b a) e (leNet-total a b e))
-  normalize-falls (Xor a b) = exchanged-falls leNet Xor a b (λ e. swap-falls (stamp ts a) (stamp ts b) 1 (leNet a b) (leNet b a) e (leNet-total a b e))
+  normalize-falls (And a b) = exchanged-falls leNet And a b (λ e. swap-falls (stamp ts a) (stamp ts b) 3 (leNet a b) (leNet b a) e (net-order .total a b e))
+  normalize-falls (Or a b) = exchanged-falls leNet Or a b (λ e. swap-falls (stamp ts a) (stamp ts b) 3 (leNet a b) (leNet b a) e (net-order .total a b e))
+  normalize-falls (Xor a b) = exchanged-falls leNet Xor a b (λ e. swap-falls (stamp ts a) (stamp ts b) 1 (leNet a b) (leNet b a) e (net-order .total a b e))
   normalize-falls (Aig p q) =
-      exchanged-falls leControl Aig p q (λ e. swap-falls (stamp ts (net p)) (stamp ts (net q)) 1 (leControl p q) (leControl q p) e (leControl-total p q e))
+      exchanged-falls leControl Aig p q (λ e. swap-falls (stamp ts (net p)) (stamp ts (net q)) 1 (leControl p q) (leControl q p) e (control-order .total p q e))
   normalize-falls (Input l) = tt
   normalize-falls (Output a l) = tt
   normalize-falls (Not a) = tt

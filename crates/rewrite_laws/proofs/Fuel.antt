@@ -1,15 +1,13 @@
 -- Above a cell's weight, the number of steps changes nothing and never runs out. Assumes nothing.
-use mathlib.Core.Path.{_≡_, refl, sym, ap, _∙_, subst}
-use mathlib.Core.Bool.{Bool, true, false, cond}
-use mathlib.Core.List.{List, [], _∷_}
-use Prim.Native.Nat.{ℕ, zero, suc, _+_, _≤_, _<_}
+use mathlib.Core.Path.{_≡_, refl, ap, _∙_}
+use mathlib.Core.Bool.{Bool}
+use Prim.Native.Nat.{ℕ, zero, suc, _<_}
 use native.Mathlib.Omega.{arith}
 use Rattle.value.specs.declared.Net.{Net}
 use Rattle.value.specs.Value.{UNDEF, ZERO, ONE, eqNet}
 use Rattle.cell.specs.declared.Cell.{Cell}
-use Rattle.cell.specs.declared.Cell.the-variants.{Input, Output, Buf, Not, And, Or, Xor, Mux, Aig}
+use Rattle.cell.specs.declared.Cell.the-variants.{Not}
 use Rattle.design.specs.declared.Source.{Source}
-use Rattle.design.specs.declared.Source.the-variants.{Opaque, Known}
 use Rattle.design.specs.declared.Found.{Found}
 use Rattle.design.specs.declared.Found.the-variants.{Nothing, At}
 use Rattle.design.specs.Queue.{seek}
@@ -17,52 +15,24 @@ use Rattle.normalize.specs.declared.Outcome.{Outcome}
 use Rattle.normalize.specs.declared.Outcome.the-variants.{None, Value, Form, Add, NotOf, AddNotOf}
 use Rattle.normalize.specs.Outcomes.{_orElse_, given}
 use Rattle.normalize.specs.Normalize.{normalize}
-use Rattle.aig.specs.Aig.{ifNot, notRule, simpleAigOpt}
+use Rattle.aig.specs.Aig.{notRule, simpleAigOpt}
 use Rattle.rewrite.specs.Rewriter.{Rewriter, Lookup, weight, findCell}
-use Rattle.rewrite.specs.Rewrite.{rules, Result, none, cell, value, spent, Added, at, unadded, asValue, asNot, addNot, perform, enter, asked, replacing, goOn, turn, process, processCell, addCell}
+use Rattle.rewrite.specs.Rewrite.{rules, Result, none, cell, value, spent, Added, at, unadded, asValue, asNot, addNot, perform, enter, asked, replacing, goOn, process, processCell, addCell}
+use Rattle.aig_laws.specs.Reads.{GoodOutcome}
+use Rattle.aig_laws.proofs.Strings.{has-given, has-ifNot, has-orElse}
 use Rattle.rewrite_laws.specs.Stamps.{Stamped, Lighter}
 use Rattle.rewrite_laws.proofs.Falling.{rules-fall}
 
 -- an outcome that neither goes round again nor adds
 abbrev pub Quiet : Outcome → Type 0
-Quiet None = Unit {0}
-Quiet (Value n) = Unit {0}
-Quiet (Form c) = ⊥
-Quiet (Add c) = ⊥
-Quiet (NotOf c) = ⊥
-Quiet (AddNotOf c) = ⊥
-
-quiet-orElse : (x y : Outcome) → Quiet x → Quiet y → Quiet (x orElse y)
-unfolding _orElse_
-quiet-orElse None y p q = q
-quiet-orElse (Value n) y p q = tt
-quiet-orElse (Form c) y p q = p
-quiet-orElse (Add c) y p q = p
-quiet-orElse (NotOf c) y p q = p
-quiet-orElse (AddNotOf c) y p q = p
-
-quiet-given : (b : Bool) (n : Net) → Quiet (given b (Value n))
-quiet-given true n = tt
-quiet-given false n = tt
-
-quiet-ifNot : (src : Source) → Quiet (ifNot src (λ v. Value v))
-unfolding ifNot
-quiet-ifNot Opaque = tt
-quiet-ifNot (Known (Not v)) = tt
-quiet-ifNot (Known (Input l)) = tt
-quiet-ifNot (Known (Output a l)) = tt
-quiet-ifNot (Known (Buf a)) = tt
-quiet-ifNot (Known (And a c)) = tt
-quiet-ifNot (Known (Or a c)) = tt
-quiet-ifNot (Known (Xor a c)) = tt
-quiet-ifNot (Known (Mux a c d)) = tt
-quiet-ifNot (Known (Aig p q)) = tt
+Quiet = GoodOutcome (λ c. ⊥) (λ n. Unit {0})
 
 quiet-notRule : (src : Source) (n : Net) → Quiet (notRule src n)
 unfolding notRule
 quiet-notRule src n =
-    quiet-orElse _ _ (quiet-given (eqNet n ZERO) ONE)
-    (quiet-orElse _ _ (quiet-given (eqNet n ONE) ZERO) (quiet-orElse _ _ (quiet-given (eqNet n UNDEF) UNDEF) (quiet-ifNot src)))
+    let test : (b : Bool) (m : Net) → Quiet (given b (Value m)) = λ b m. has-given Quiet tt b (Value m) (λ e. tt) in
+    has-orElse Quiet _ _ (test (eqNet n ZERO) ONE)
+    (has-orElse Quiet _ _ (test (eqNet n ONE) ZERO) (has-orElse Quiet _ _ (test (eqNet n UNDEF) UNDEF) (has-ifNot Quiet tt src (λ v. Value v) (λ v e. tt))))
 
 -- the rules of an inverter are quiet
 pub not-quiet : (look : Lookup) (r : Rewriter) (n : Net) → Quiet (rules look r (Not n))

@@ -1,24 +1,23 @@
 -- Slots never become fewer, and an added cell is never changed. Assumes nothing.
-use mathlib.Core.Path.{_≡_, refl, sym, ap, _∙_, subst}
+use mathlib.Core.Path.{_≡_, refl, sym, ap, _∙_}
 use mathlib.Core.Bool.{Bool, true, false, cond}
 use mathlib.Core.List.{List, [], _∷_, _++_, append-assoc, append-nil}
-use Prim.Native.Nat.{ℕ, zero, suc, _+_, _≤_, _<_}
+use Prim.Native.Nat.{ℕ, suc, _+_, _≤_, _<_}
 use native.Mathlib.Omega.{arith}
-use lib.ListN.{length, getD, set, length-append, length-set, List·getD-append}
-use lib.Dec.{eqb}
+use lib.ListN.{length, length-append, length-set, List·getD-append}
 use lib.Seq.{getD-set-other}
 use Rattle.value.specs.declared.Net.{Net}
 use Rattle.cell.specs.declared.Cell.{Cell}
 use Rattle.netlist.specs.Shape.{visitMut, hasEffects, isSplittable}
 use Rattle.netlist.specs.Netlist.{cellIn}
-use Rattle.design.specs.Queue.{Design, netIn, mapNetNew}
+use Rattle.design.specs.Queue.{netIn, mapNetNew}
 use Rattle.normalize.specs.declared.Outcome.{Outcome}
 use Rattle.normalize.specs.declared.Outcome.the-variants.{None, Value, Form, Add, NotOf, AddNotOf}
 use Rattle.rewrite.specs.Rewriter.{Rewriter, Lookup, entered, finished}
 use Rattle.rewrite.specs.Rewrite.{rules, Result, none, cell, value, spent, Added, at, unadded, process, processCell, addCell, Run, ran, stuck, bitDone, cellDone, runItem, andThen, runItems}
-use Rattle.aig_laws.specs.Reads.{GoodOutcome}
 use Rattle.order_laws.specs.Ordered.{has}
-use Rattle.order_laws.proofs.Walks.{eqb-self, or-left, or-right}
+use Rattle.order_laws.proofs.Members.{has-first, has-later}
+use Rattle.aig_laws.specs.Reads.{GoodOutcome}
 use Rattle.rewrite_laws.proofs.Kept.{Keeps, KeptResult, KeptAdded, process-kept, addCell-kept}
 
 -- while a cell is processed, cells and stamps are added behind the last, and nothing is replaced
@@ -158,8 +157,8 @@ module _ (look : Lookup) (n : ℕ) where
   unfolding runItems has
   runItems-grows [] h r = grows-none n r
   runItems-grows (s ∷ ss) h r =
-      go (runItem look s r) (runItem-grows s (h s (or-left (eqb s s) (has s ss) (eqb-self s))) r)
-      (runItems-grows ss (λ x e. h x (or-right (eqb x s) (has x ss) e)))
+      go (runItem look s r) (runItem-grows s (h s (has-first s ss)) r)
+      (runItems-grows ss (λ x e. h x (has-later x s ss e)))
     where
       on : (r′ : Rewriter) (y : Run) → Grows n r r′ → GrowsRun n r′ y → GrowsRun n r y
       on r′ (ran r₂) g k = grows-on n r r′ r₂ g k

@@ -1,21 +1,27 @@
 -- What processing a cell keeps. The rewriter changes in one way only while a cell is processed: a cell to which no rule applies, and which the
 -- cache does not know, is entered in the next slot. P holds of the rewriter, Q of the cells that come up, N of the nets that are answered.
 -- Assumes nothing.
-use mathlib.Core.Path.{_≡_, refl, sym, ap, _∙_, subst}
-use mathlib.Core.List.{List, [], _∷_}
+use mathlib.Core.Path.{_≡_, refl}
 use Prim.Native.Nat.{ℕ, zero, suc}
 use lib.ListN.{length}
 use Rattle.value.specs.declared.Net.{Net}
+use Rattle.value.specs.Value.{UNDEF, ZERO, ONE}
 use Rattle.cell.specs.declared.Cell.{Cell}
 use Rattle.cell.specs.declared.Cell.the-variants.{Not}
+use Rattle.netlist.specs.Shape.{visit, hasEffects}
 use Rattle.design.specs.declared.Found.{Found}
 use Rattle.design.specs.declared.Found.the-variants.{Nothing, At}
 use Rattle.design.specs.Queue.{netIn, seek}
 use Rattle.normalize.specs.declared.Outcome.{Outcome}
 use Rattle.normalize.specs.declared.Outcome.the-variants.{None, Value, Form, Add, NotOf, AddNotOf}
-use Rattle.aig_laws.specs.Reads.{GoodOutcome}
-use Rattle.rewrite.specs.Rewriter.{Rewriter, Lookup, entered}
-use Rattle.rewrite.specs.Rewrite.{rules, Result, none, cell, value, spent, Added, at, unadded, asValue, asNot, addNot, perform, enter, asked, replacing, goOn, turn, process, processCell, addCell}
+use Rattle.normalize.specs.Normalize.{normalize}
+use Rattle.aig.specs.Aig.{simpleAigOpt}
+use Rattle.rewrite.specs.Rewriter.{Rewriter, Lookup, entered, findCell}
+use Rattle.rewrite.specs.Rewrite.{rules, Result, none, cell, value, spent, Added, at, unadded, asValue, asNot, addNot, perform, enter, asked, replacing, goOn, process, processCell, addCell}
+use Rattle.order_laws.specs.Members.{All}
+use Rattle.aig_laws.specs.Reads.{GoodOutcome, GateOf, SourceNets}
+use Rattle.aig_laws.proofs.Strings.{has-orElse}
+use Rattle.aig_laws.proofs.Reading.{normalize-reads, simple-reads}
 
 pub record Keeps (look : Lookup) (P : Rewriter → Type 0) (Q : Rewriter → Cell → Type 0) (N : Rewriter → Net → Type 0) : Type 0 where
   pub plan : (r : Rewriter) (c : Cell) → P r → Q r c → GoodOutcome (Q r) (N r) (rules look r c)
@@ -113,3 +119,24 @@ module _ (look : Lookup) (P : Rewriter → Type 0) (Q : Rewriter → Cell → Ty
   pub addCell-kept : (r : Rewriter) (c : Cell) → P r → Q r c → KeptAdded (addCell look r c)
   unfolding addCell
   addCell-kept r c p q = enter-kept c (processCell look r c) (processCell-kept r c p q)
+
+-- Gates that read nets of S: what the rules make of one is such a gate or such a net, and so is the inverse of a net
+pub rules-read : (look : Lookup) (r : Rewriter) (S : Net → Type 0) → S UNDEF × S ZERO × S ONE → ((m : Net) → S m → SourceNets S (findCell look r m))
+    → (c : Cell) → GateOf S c → GoodOutcome (GateOf S) S (rules look r c)
+unfolding rules
+rules-read look r S k sources c q =
+    has-orElse (GoodOutcome (GateOf S) S) (normalize c) (simpleAigOpt (findCell look r) c)
+    (normalize-reads S (k .0) (k .1) (k .2) c q) (simple-reads S (k .0) (k .1) (k .2) (findCell look r) sources c q)
+
+pub inverse-reads : (S : Net → Type 0) (m : Net) → S m → GateOf S (Not m)
+unfolding All visit hasEffects
+inverse-reads S m v = ((v, tt), refl)
+
+-- the same where it is said under a condition
+pub delayed : (B : Type 0) (q : Cell → Type 0) (v : Net → Type 0) (o : Outcome) → (B → GoodOutcome q v o) → GoodOutcome (λ c. B → q c) (λ m. B → v m) o
+delayed B q v None f = tt
+delayed B q v (Value m) f = f
+delayed B q v (Form c) f = f
+delayed B q v (Add c) f = f
+delayed B q v (NotOf c) f = f
+delayed B q v (AddNotOf c) f = f

@@ -5,4 +5,6 @@ pub mod Kept
 pub mod Grows
 pub mod Settled
 pub mod Steps
+pub mod Items
+pub mod Keeping
 pub mod Running

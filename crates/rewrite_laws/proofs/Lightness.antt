@@ -1,60 +1,34 @@
 -- Stamps and weights. Assumes nothing.
-use mathlib.Core.Path.{_≡_, refl, sym, ap, _∙_, subst}
-use mathlib.Core.Bool.{Bool, true, false, cond, not, _&&_, true≢false, false≢true}
-use mathlib.Core.List.{List, [], _∷_}
-use Prim.Native.Nat.{ℕ, zero, suc, _+_, _*_, _≤_, _<_}
+use mathlib.Core.Path.{_≡_, ap}
+use mathlib.Core.Bool.{Bool, true, false}
+use mathlib.Core.List.{List}
+use Prim.Native.Nat.{ℕ, _+_, _*_, _≤_, _<_}
 use native.Mathlib.Omega.{arith}
-use lib.Dec.{leb}
-use borrow.Author.Tests.{leb-false}
 use Rattle.value.specs.declared.Net.{Net}
 use Rattle.value.specs.declared.ControlNet.{ControlNet}
 use Rattle.value.specs.declared.ControlNet.the-variants.{Pos, Neg}
-use Rattle.value.specs.Value.{UNDEF, ZERO, ONE, eqNet, leNet, driver, net, fromNetInvert, canonicalize, notControl, eqControl, leControl}
-use Rattle.cell.specs.declared.Cell.{Cell}
-use Rattle.cell.specs.declared.Cell.the-variants.{Input, Output, Buf, Not, And, Or, Xor, Mux, Aig}
+use Rattle.value.specs.Value.{ZERO, ONE, eqNet, leNet, driver, net, fromNetInvert, notControl, leControl}
+use Rattle.value.proofs.Laws.{net-of}
+use Rattle.cell.specs.declared.Cell.the-variants.{Not, And, Or, Xor, Aig}
 use Rattle.normalize.specs.declared.Outcome.{Outcome}
 use Rattle.normalize.specs.declared.Outcome.the-variants.{None, Value, Form, Add, NotOf, AddNotOf}
 use Rattle.rewrite.specs.Rewriter.{stamp, weight, rank}
+use Rattle.aig_laws.proofs.Reading.{not-net}
 use Rattle.rewrite_laws.specs.Stamps.{Lighter}
-
--- the orders are total
-pub leNet-total : (a b : Net) → leNet a b ≡ false → leNet b a ≡ true
-unfolding leNet
-leNet-total a b e = go (leb (b .0) (a .0)) refl
-  where
-    go : (t : Bool) → leb (b .0) (a .0) ≡ t → t ≡ true
-    go true f = refl
-    go false f = absurd (omega (arith, leb-false (a .0) (b .0) e, leb-false (b .0) (a .0) f))
-
-pub leControl-total : (x y : ControlNet) → leControl x y ≡ false → leControl y x ≡ true
-unfolding leControl
-leControl-total (Pos a) (Pos b) e = leNet-total a b e
-leControl-total (Pos a) (Neg b) e = absurd (true≢false e)
-leControl-total (Neg a) (Pos b) e = refl
-leControl-total (Neg a) (Neg b) e = leNet-total a b e
 
 module _ (ts : List ℕ) where
   -- a negated control net is of the same net, or a constant
-  cond-stamp : (b : Bool) (x y : ControlNet) (m : ℕ) → stamp ts (net x) ≤ m → stamp ts (net y) ≤ m → stamp ts (net (cond b x y)) ≤ m
-  cond-stamp true x y m p q = p
-  cond-stamp false x y m p q = q
-
-  constant-stamp : (m : ℕ) → (stamp ts ONE ≤ m) × (stamp ts ZERO ≤ m)
+  constant-stamp : (m : ℕ) → (stamp ts ZERO ≤ m) × (stamp ts ONE ≤ m)
   unfolding stamp driver eqNet
   constant-stamp m = (omega arith, omega arith)
 
   pub not-stamp : (x : ControlNet) → stamp ts (net (notControl x)) ≤ stamp ts (net x)
-  unfolding notControl canonicalize
-  not-stamp (Neg n) = omega arith
-  not-stamp (Pos n) =
-      let m : ℕ = stamp ts n in
-      cond-stamp (eqNet n UNDEF) (Pos n) (cond (eqNet n ZERO) (Pos ONE) (cond (eqNet n ONE) (Pos ZERO) (Neg n))) m (omega arith)
-      (cond-stamp (eqNet n ZERO) (Pos ONE) (cond (eqNet n ONE) (Pos ZERO) (Neg n)) m (constant-stamp m .0)
-      (cond-stamp (eqNet n ONE) (Pos ZERO) (Neg n) m (constant-stamp m .1) (omega arith)))
+  not-stamp x =
+      let m : ℕ = stamp ts (net x) in
+      not-net (λ n. stamp ts n ≤ m) (constant-stamp m .0) (constant-stamp m .1) x (omega arith)
 
   pub invert-stamp : (n : Net) (b : Bool) → stamp ts (net (fromNetInvert n b)) ≡ stamp ts n
-  invert-stamp n true = refl
-  invert-stamp n false = refl
+  invert-stamp n b = ap (stamp ts) (net-of n b)
 
   -- a weight is twice the stamps and a rank
   rank-below : (b : Bool) (low : ℕ) → rank b low ≤ low + 1

@@ -1,68 +1,49 @@
 -- Settled nets: constants, inputs, and nets that are finished. Their stamps change no more, and a look-up of one gives settled operands with
 -- lower stamps. So the Rust's look-up is one that the falling number falls for. Assumes nothing.
 use mathlib.Core.Path.{_≡_, refl, sym, ap, _∙_, subst}
-use mathlib.Core.Bool.{Bool, true, false, cond, not, _&&_, true≢false, false≢true}
-use mathlib.Core.List.{List, [], _∷_, _++_}
+use mathlib.Core.Bool.{Bool, true, false, cond}
+use mathlib.Core.List.{List}
 use mathlib.Core.Logic.{_⊎_, inl, inr}
-use Prim.Native.Nat.{ℕ, zero, suc, _+_, _-_, _≤_, _<_}
+use Prim.Native.Nat.{ℕ, _-_, _≤_, _<_}
 use native.Mathlib.Omega.{arith}
-use lib.Dec.{eqb, leb, ltb}
+use lib.Dec.{eqb, ltb}
 use lib.ListN.{length, getD, List·getD-eq-default}
-use borrow.Author.Tests.{eqb-true, eqb-false, leb-false, ltb-true, ltb-false}
+use borrow.Author.Tests.{eqb-false, ltb-true, ltb-false}
+use Rattle.logic.specs.declared.Trit.{Trit}
+use Rattle.logic.specs.declared.Trit.the-variants.{Undef, Zero, One}
 use Rattle.value.specs.declared.Net.{Net}
 use Rattle.value.specs.declared.Slot.{Slot}
 use Rattle.value.specs.declared.Driver.{Driver}
 use Rattle.value.specs.declared.Driver.the-variants as driven
-use Rattle.value.specs.Value.{slotAt, eqNet, driver}
+use Rattle.value.specs.Value.{driver, UNDEF, ZERO, ONE, fromTrit}
+use Rattle.value.proofs.Laws.{cell-driver, driver-const}
 use Rattle.cell.specs.declared.Cell.{Cell}
-use Rattle.cell.specs.declared.Cell.the-variants.{Input, Output, Buf, Not, And, Or, Xor, Mux, Aig}
 use Rattle.netlist.specs.Shape.{visit, isInput}
 use Rattle.netlist.specs.Netlist.{cellIn}
 use Rattle.design.specs.declared.Source.{Source}
 use Rattle.design.specs.declared.Source.the-variants.{Opaque, Known}
-use Rattle.design.specs.declared.Found.{Found}
-use Rattle.design.specs.declared.Found.the-variants.{Nothing, At}
-use Rattle.design.specs.Queue.{netIn, drivenTo, followed, mapNetNew, sourceIn, findNewCell, seek}
-use Rattle.rewrite.specs.Rewriter.{Rewriter, Lookup, stampIn, stamp, findCell}
-use Rattle.order_laws.proofs.Walks.{either, never}
-use Rattle.aig_laws.specs.Reads.{Nets, SourceNets}
+use Rattle.design.specs.Queue.{netIn, drivenTo, mapNetNew, sourceIn, findNewCell}
+use Rattle.rewrite.specs.Rewriter.{Rewriter, stampIn, stamp, findCell}
+use Rattle.order_laws.specs.Members.{All, Drives}
+use Rattle.order_laws.proofs.Truth.{either}
+use Rattle.order_laws.proofs.Members.{all-imp}
+use Rattle.order_laws.proofs.Operands.{drives-none, input-reads}
+use Rattle.order_laws.proofs.Queue.{mapped-keeps, replacement}
+use Rattle.order_laws.proofs.Lists.{getD-inside}
+use Rattle.aig_laws.specs.Reads.{SourceNets}
 use Rattle.rewrite_laws.specs.Stamps.{SourceBefore, Stamped}
 
 -- the number of slots up to which each has a net of its own
 abbrev pub limit : ℕ
 limit = 4294967293
 
-pub driver-net : (i : ℕ) → i < limit → driver (netIn i) ≡ driven.Cell (slotAt i)
-unfolding driver eqNet
-driver-net i h = go (leb 2 (i + 2)) (eqb (i + 2) 4294967295) refl refl _
-  where
-    go : (b c : Bool) → leb 2 (i + 2) ≡ b → eqb (i + 2) 4294967295 ≡ c → (x : Driver)
-        → cond (b && not c) (driven.Cell (slotAt (i + 2 - 2))) x ≡ driven.Cell (slotAt i)
-    go true false e f x = ap (λ x. driven.Cell (slotAt x)) (omega arith)
-    go true true e f x = absurd (omega (arith, eqb-true (i + 2) 4294967295 f))
-    go false c e f x = absurd (omega (arith, leb-false 2 (i + 2) e))
-
 pub stamped-inside : (ts : List ℕ) (i : ℕ) → 0 < getD ts i 0 → i < length ts
-stamped-inside ts i h = either (ltb i (length ts)) (λ e. ltb-true i (length ts) e)
-    (λ e. absurd (omega (arith, h, List·getD-eq-default ts 0 {n = i} (ltb-false i (length ts) e))))
+stamped-inside ts i h = getD-inside ts i 0 (λ e. omega (arith, h, e))
 
--- lists of nets
-pub nets-map : (P Q : Net → Type 0) → ((n : Net) → P n → Q n) → (ns : List Net) → Nets P ns → Nets Q ns
-unfolding Nets
-nets-map P Q f [] h = tt
-nets-map P Q f (n ∷ ns) h = (f n (h .0), nets-map P Q f ns (h .1))
-
-pub input-reads : (P : Net → Type 0) (c : Cell) → isInput c ≡ true → Nets P (visit c)
-unfolding Nets visit
-input-reads P (Input l) e = tt
-input-reads P (Output a l) e = absurd (false≢true e)
-input-reads P (Buf a) e = absurd (false≢true e)
-input-reads P (Not a) e = absurd (false≢true e)
-input-reads P (And a b) e = absurd (false≢true e)
-input-reads P (Or a b) e = absurd (false≢true e)
-input-reads P (Xor a b) e = absurd (false≢true e)
-input-reads P (Mux a b c) e = absurd (false≢true e)
-input-reads P (Aig p q) e = absurd (false≢true e)
+-- a net's stamp is that of the slot that drives it
+pub stamp-driven : (ts : List ℕ) (m : Net) (s : Slot) → driver m ≡ driven.Cell s → stamp ts m ≡ getD ts (s .0) 0
+unfolding stamp
+stamp-driven ts m s e = ap (stampIn ts) e
 
 module _ (cs₀ : List Cell) where
   abbrev pub tickets : ℕ
@@ -71,12 +52,14 @@ module _ (cs₀ : List Cell) where
   abbrev pub SettledSlot : List ℕ → ℕ → Type 0
   SettledSlot ts s = ((s < tickets) × (isInput (cellIn cs₀ s) ≡ true)) ⊎ (0 < getD ts s 0)
 
-  abbrev pub SettledBy : List ℕ → Driver → Type 0
-  SettledBy ts (driven.Const t) = Unit {0}
-  SettledBy ts (driven.Cell s) = SettledSlot ts (s .0)
-
   unfoldable pub Settled : List ℕ → Net → Type 0
-  Settled ts m = SettledBy ts (driver m)
+  Settled ts = Drives (SettledSlot ts)
+
+  pub settled-constants : (ts : List ℕ) → Settled ts UNDEF × Settled ts ZERO × Settled ts ONE
+  unfolding Settled
+  settled-constants ts =
+      let none : (t : Trit) → Drives (SettledSlot ts) (fromTrit t) = λ t. drives-none (SettledSlot ts) (fromTrit t) t (driver-const t) in
+      (none Undef, none Zero, none One)
 
   abbrev pub Under : List ℕ → ℕ → Net → Type 0
   Under ts b m = Settled ts m × (stamp ts m < b)
@@ -92,10 +75,10 @@ module _ (cs₀ : List Cell) where
     pub clocked : (i : ℕ) → getD (r .stamps) i 0 ≤ r .clock
     pub inputs : (i : ℕ) → i < tickets → isInput (cellIn cs₀ i) ≡ true → getD (r .stamps) i 0 ≡ 0
     pub untouched : (i : ℕ) → i < tickets → getD (r .stamps) i 0 ≡ 0 → cellIn (r .design .cells) i ≡ cellIn cs₀ i
-    pub fed : (i : ℕ) → 0 < getD (r .stamps) i 0 → Nets (Under (r .stamps) (getD (r .stamps) i 0)) (visit (cellIn (r .design .cells) i))
+    pub fed : (i : ℕ) → 0 < getD (r .stamps) i 0 → All (Under (r .stamps) (getD (r .stamps) i 0)) (visit (cellIn (r .design .cells) i))
     pub stands : (i : ℕ) (d : Net) → i < tickets → StandsFor (r .stamps) i (getD (r .design .replaced) i d)
 
-  module _ (r : Rewriter) (inv : Inv r) (few : length (r .design .cells) ≤ limit) where
+  module _ (r : Rewriter) (inv : Inv r) where
     abbrev ts : List ℕ
     ts = r .stamps
 
@@ -103,80 +86,58 @@ module _ (cs₀ : List Cell) where
     rs = r .design .replaced
 
     -- one replacement, and all of them
-    Follows : Net → Net → Type 0
+    abbrev Follows : Net → Net → Type 0
     Follows m m′ = Settled ts m′ × (stamp ts m′ ≤ stamp ts m)
 
-    one-step : (m : Net) → Settled ts m → Follows m (drivenTo rs m (driver m))
-    unfolding Settled Follows stamp
-    one-step m h = go (driver m) refl h
+    one-step : (m : Net) → Settled ts m → Follows m (replacement rs m)
+    one-step m h = go (driver m) refl
       where
-        slot : (s : Slot) → driver m ≡ driven.Cell s → SettledSlot ts (s .0) → (b : Bool) → ltb (s .0) tickets ≡ b → (m′ : Net) → m′ ≡ getD rs (s .0) m
-            → SettledBy ts (driver m′) × (stampIn ts (driver m′) ≤ stampIn ts (driver m))
-        slot s e k true l m′ q = at (inv .stands (s .0) m (ltb-true (s .0) tickets l))
-          where
-            at : StandsFor ts (s .0) (getD rs (s .0) m) → SettledBy ts (driver m′) × (stampIn ts (driver m′) ≤ stampIn ts (driver m))
-            at (inl f) =
-                let d : driver m′ ≡ driven.Cell (slotAt (s .0)) = ap driver (q ∙ f) ∙ driver-net (s .0) (omega (arith, few, inv .many, ltb-true (s .0) tickets l)) in
-                rw (d, e) (k, omega arith)
-            at (inr f) = rw (q, e) (f .1, omega (arith, f .2))
-        slot s e k false l m′ q =
-            let d : m′ ≡ m = q ∙ List·getD-eq-default rs m {n = s .0} (omega (arith, inv .wide, ltb-false (s .0) tickets l)) in
-            rw (d, e) (k, omega arith)
+        same : (m′ : Net) → m′ ≡ m → Follows m m′
+        same m′ q = subst (Follows m) (sym q) (h, omega arith)
 
-        go : (x : Driver) → driver m ≡ x → SettledBy ts x → SettledBy ts (driver (drivenTo rs m x)) × (stampIn ts (driver (drivenTo rs m x)) ≤ stampIn ts (driver m))
-        go (driven.Const t) e k = rw e (tt, omega arith)
-        go (driven.Cell s) e k = slot s e k (ltb (s .0) tickets) refl (getD rs (s .0) m) refl
+        slot : (s : Slot) → driver m ≡ driven.Cell s → StandsFor ts (s .0) (getD rs (s .0) m) → Follows m (getD rs (s .0) m)
+        slot s e (inl f) = same (getD rs (s .0) m) (f ∙ sym (cell-driver m s e))
+        slot s e (inr f) = (f .1, omega (arith, f .2, stamp-driven ts m s e))
 
-    follows : (k : ℕ) (m : Net) → Settled ts m → Follows m (followed k rs m)
-    unfolding followed Follows
-    follows zero m h = (h, omega arith)
-    follows (suc k) m h =
-        let m′ : Net = drivenTo rs m (driver m) in
-        let a : Follows m m′ = one-step m h in
-        go (eqNet m′ m) (followed k rs m′) a (follows k m′ (a .0))
-      where
-        go : (b : Bool) (y : Net) → Follows m (drivenTo rs m (driver m)) → Follows (drivenTo rs m (driver m)) y → Follows m (cond b m y)
-        go true y a c = (h, omega arith)
-        go false y a c = (c .0, omega (arith, a .1, c .1))
+        go : (x : Driver) → driver m ≡ x → Follows m (drivenTo rs m x)
+        go (driven.Const t) e = same m refl
+        go (driven.Cell s) e = either (ltb (s .0) tickets)
+            (λ l. slot s e (inv .stands (s .0) m (ltb-true (s .0) tickets l)))
+            (λ l. same (getD rs (s .0) m) (List·getD-eq-default rs m {n = s .0} (omega (arith, inv .wide, ltb-false (s .0) tickets l))))
+
+    follows : (m : Net) → Settled ts m → Follows m (mapNetNew rs m)
+    follows m h =
+        mapped-keeps rs (Follows m) (λ n f. let g : Follows n (replacement rs n) = one-step n (f .0) in (g .0, omega (arith, f .1, g .1))) m (h, omega arith)
 
     pub map-settled : (m : Net) → Settled ts m → Settled ts (mapNetNew rs m)
-    unfolding mapNetNew Follows
-    map-settled m h = follows (length rs) m h .0
+    map-settled m h = follows m h .0
 
     pub map-lower : (m : Net) → Settled ts m → stamp ts (mapNetNew rs m) ≤ stamp ts m
-    unfolding mapNetNew Follows
-    map-lower m h = follows (length rs) m h .1
+    map-lower m h = follows m h .1
 
     -- what a look-up of a settled net gives
     pub look-good : (m : Net) → Settled ts m → SourceNets (Under ts (stamp ts m)) (findNewCell (r .design) m)
-    unfolding findNewCell mapNetNew Follows Settled stamp
-    look-good m h = go (followed (length rs) rs m) (follows (length rs) m h)
+    unfolding findNewCell Settled
+    look-good m h = by (mapNetNew rs m) (follows m h) (driver (mapNetNew rs m)) refl
       where
-        slot : (s : ℕ) → getD ts s 0 ≤ stamp ts m → SettledSlot ts s → Nets (Under ts (stamp ts m)) (visit (cellIn (r .design .cells) s))
+        slot : (s : ℕ) → getD ts s 0 ≤ stamp ts m → SettledSlot ts s → All (Under ts (stamp ts m)) (visit (cellIn (r .design .cells) s))
         slot s l (inl i) =
             rw (inv .untouched s (i .0) (inv .inputs s (i .0) (i .1))) (input-reads (Under ts (stamp ts m)) (cellIn cs₀ s) (i .1))
         slot s l (inr p) =
-            nets-map (Under ts (getD ts s 0)) (Under ts (stamp ts m)) (λ o u. (u .0, omega (arith, u .1, l))) (visit (cellIn (r .design .cells) s)) (inv .fed s p)
+            all-imp (Under ts (getD ts s 0)) (Under ts (stamp ts m)) (λ o u. (u .0, omega (arith, u .1, l))) (visit (cellIn (r .design .cells) s)) (inv .fed s p)
 
-        by : (x : Driver) → stampIn ts x ≤ stamp ts m → SettledBy ts x → SourceNets (Under ts (stamp ts m)) (sourceIn (r .design .cells) x)
-        by (driven.Const t) l k = tt
-        by (driven.Cell s) l k = slot (s .0) l k
-
-        go : (y : Net) → Settled ts y × (stamp ts y ≤ stamp ts m) → SourceNets (Under ts (stamp ts m)) (sourceIn (r .design .cells) (driver y))
-        go y f = by (driver y) (f .1) (f .0)
+        by : (y : Net) → Follows m y → (x : Driver) → driver y ≡ x → SourceNets (Under ts (stamp ts m)) (sourceIn (r .design .cells) x)
+        by y f (driven.Const t) e = tt
+        by y f (driven.Cell s) e = slot (s .0) (omega (arith, f .1, stamp-driven ts y s e)) (f .0 s e)
 
     -- a net with a stamp is settled
     pub stamped-settled : (m : Net) → 0 < stamp ts m → Settled ts m
-    unfolding Settled stamp
-    stamped-settled m h = go (driver m) h
-      where
-        go : (x : Driver) → 0 < stampIn ts x → SettledBy ts x
-        go (driven.Const t) p = tt
-        go (driven.Cell s) p = inr p
+    unfolding Settled
+    stamped-settled m h s e = inr (omega (arith, h, stamp-driven ts m s e))
 
     source-map : (P Q : Net → Type 0) → ((n : Net) → P n → Q n) → (src : Source) → SourceNets P src → SourceNets Q src
     source-map P Q f Opaque h = tt
-    source-map P Q f (Known c) h = nets-map P Q f (visit c) h
+    source-map P Q f (Known c) h = all-imp P Q f (visit c) h
 
     -- the law: the Rust's look-up gives operands stamped below the net
     pub stamped : Stamped findNewCell r

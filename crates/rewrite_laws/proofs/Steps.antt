@@ -1,13 +1,13 @@
 -- The two steps of the rewriter, entering a cell and finishing a slot, keep what is known of settled nets. Assumes nothing.
-use mathlib.Core.Path.{_≡_, refl, sym, ap, _∙_, subst}
-use mathlib.Core.Bool.{Bool, true, false, cond, not, _&&_, true≢false, false≢true}
+use mathlib.Core.Path.{_≡_, refl, sym, ap, _∙_}
+use mathlib.Core.Bool.{false, true≢false}
 use mathlib.Core.List.{List, [], _∷_, _++_}
 use mathlib.Core.Logic.{_⊎_, inl, inr}
-use Prim.Native.Nat.{ℕ, zero, suc, _+_, _-_, _≤_, _<_}
+use Prim.Native.Nat.{ℕ, suc, _+_, _-_, _≤_, _<_}
 use native.Mathlib.Omega.{arith}
-use lib.Dec.{eqb, leb, ltb}
+use lib.Dec.{eqb, ltb}
 use lib.ListN.{length, getD, set, length-append, length-set, List·getD-append, List·getD-eq-default}
-use lib.Seq.{getD-set-same, getD-set-other}
+use lib.Seq.{getD-set-same, getD-set-other, getD-append-seam}
 use borrow.Author.Tests.{eqb-true, eqb-false, ltb-true, ltb-false}
 use Rattle.value.specs.declared.Net.{Net}
 use Rattle.value.specs.declared.Driver.{Driver}
@@ -19,15 +19,13 @@ use Rattle.netlist.specs.Shape.{visit, isInput}
 use Rattle.netlist.specs.Netlist.{cellIn}
 use Rattle.design.specs.Queue.{Design, Entry, netIn}
 use Rattle.rewrite.specs.Rewriter.{Rewriter, stampIn, stamp, entered, finished}
-use Rattle.order_laws.proofs.Walks.{either, never}
-use Rattle.aig_laws.specs.Reads.{Nets}
-use Rattle.rewrite_laws.proofs.Settled.{limit, driver-net, stamped-inside, nets-map, tickets, SettledSlot, SettledBy, Settled, Under, StandsFor, Inv}
+use Rattle.order_laws.specs.Members.{All}
+use Rattle.order_laws.proofs.Truth.{either}
+use Rattle.order_laws.proofs.Members.{all-imp}
+use Rattle.order_laws.proofs.Operands.{drives-in}
+use Rattle.rewrite_laws.proofs.Settled.{limit, stamped-inside, tickets, SettledSlot, Settled, Under, StandsFor, Inv}
 
 -- one more at the end of a list
-pub getD-last : {A : Type 0} (xs : List A) (x d : A) → getD (xs ++ (x ∷ [])) (length xs) d ≡ x
-getD-last [] x d = refl
-getD-last (y ∷ xs) x d = getD-last xs x d
-
 getD-past : {A : Type 0} (xs : List A) (x d : A) (i : ℕ) → length xs < i → getD (xs ++ (x ∷ [])) i d ≡ d
 getD-past xs x d i h = List·getD-eq-default (xs ++ (x ∷ [])) d {n = i} (rw (length-append xs (x ∷ [])) (omega arith))
 
@@ -43,19 +41,19 @@ module _ (cs₀ : List Cell) where
 
   pub later-settled : (ts ts′ : List ℕ) → Later ts ts′ → (m : Net) → Settled cs₀ ts m → Settled cs₀ ts′ m × (stamp ts′ m ≡ stamp ts m)
   unfolding Settled stamp
-  later-settled ts ts′ later m h = go (driver m) h
+  later-settled ts ts′ later m h = ((λ x e. slot (x .0) (h x e)), go (driver m) refl)
     where
-      slot : (s : ℕ) → SettledSlot cs₀ ts s → SettledSlot cs₀ ts′ s × (getD ts′ s 0 ≡ getD ts s 0)
-      slot s (inl i) = (inl i, later s (inl i))
-      slot s (inr p) = let e : getD ts′ s 0 ≡ getD ts s 0 = later s (inr p) in (inr (omega (arith, e, p)), e)
+      slot : (s : ℕ) → SettledSlot cs₀ ts s → SettledSlot cs₀ ts′ s
+      slot s (inl i) = inl i
+      slot s (inr p) = inr (omega (arith, later s (inr p), p))
 
-      go : (x : Driver) → SettledBy cs₀ ts x → SettledBy cs₀ ts′ x × (stampIn ts′ x ≡ stampIn ts x)
-      go (driven.Const t) k = (tt, refl)
-      go (driven.Cell s) k = slot (s .0) k
+      go : (x : Driver) → driver m ≡ x → stampIn ts′ x ≡ stampIn ts x
+      go (driven.Const t) e = refl
+      go (driven.Cell s) e = later (s .0) (h s e)
 
-  later-under : (ts ts′ : List ℕ) → Later ts ts′ → (b b′ : ℕ) → b ≤ b′ → (ns : List Net) → Nets (Under cs₀ ts b) ns → Nets (Under cs₀ ts′ b′) ns
+  later-under : (ts ts′ : List ℕ) → Later ts ts′ → (b b′ : ℕ) → b ≤ b′ → (ns : List Net) → All (Under cs₀ ts b) ns → All (Under cs₀ ts′ b′) ns
   later-under ts ts′ later b b′ l ns h =
-      nets-map (Under cs₀ ts b) (Under cs₀ ts′ b′)
+      all-imp (Under cs₀ ts b) (Under cs₀ ts′ b′)
       (λ o u. let k : Settled cs₀ ts′ o × (stamp ts′ o ≡ stamp ts o) = later-settled ts ts′ later o (u .0) in (k .0, omega (arith, k .1, u .1, l))) ns h
 
   later-stands : (ts ts′ : List ℕ) → Later ts ts′ → (i : ℕ) (m : Net) → StandsFor cs₀ ts i m → StandsFor cs₀ ts′ i m
@@ -69,7 +67,7 @@ module _ (cs₀ : List Cell) where
     abbrev ts : List ℕ
     ts = r .stamps
 
-    stamp-clocked : (m : Net) → stamp ts m ≤ r .clock
+    pub stamp-clocked : (m : Net) → stamp ts m ≤ r .clock
     unfolding stamp
     stamp-clocked m = go (driver m)
       where
@@ -78,9 +76,9 @@ module _ (cs₀ : List Cell) where
         go (driven.Cell s) = inv .clocked (s .0)
 
     -- settled nets are stamped below the next stamp
-    next-under : (ts′ : List ℕ) → Later ts ts′ → (ns : List Net) → Nets (Settled cs₀ ts) ns → Nets (Under cs₀ ts′ (suc (r .clock))) ns
+    next-under : (ts′ : List ℕ) → Later ts ts′ → (ns : List Net) → All (Settled cs₀ ts) ns → All (Under cs₀ ts′ (suc (r .clock))) ns
     next-under ts′ later ns h =
-        nets-map (Settled cs₀ ts) (Under cs₀ ts′ (suc (r .clock)))
+        all-imp (Settled cs₀ ts) (Under cs₀ ts′ (suc (r .clock)))
         (λ o u. let k : Settled cs₀ ts′ o × (stamp ts′ o ≡ stamp ts o) = later-settled ts ts′ later o u in (k .0, omega (arith, k .1, stamp-clocked o))) ns h
 
     -- a cell is entered in the next slot
@@ -105,9 +103,9 @@ module _ (cs₀ : List Cell) where
       old-cell i l = List·getD-append (r .design .cells) (c ∷ []) (Input 0) i (omega (arith, inv .sizes))
 
       new-cell : (i : ℕ) → i ≡ length ts → cellIn (r .design .cells ++ (c ∷ [])) i ≡ c
-      new-cell i e = rw (e, inv .sizes) (getD-last (r .design .cells) c (Input 0))
+      new-cell i e = rw (e, inv .sizes) (getD-append-seam (r .design .cells) c [] (Input 0))
 
-      pub entered-inv : Nets (Settled cs₀ ts) (visit c) → Inv cs₀ (entered r c m)
+      pub entered-inv : All (Settled cs₀ ts) (visit c) → Inv cs₀ (entered r c m)
       unfolding entered
       entered-inv h = record {
         sizes = length-append ts _ ∙ ap (λ k. k + 1) (inv .sizes) ∙ sym (length-append (r .design .cells) _);
@@ -115,21 +113,23 @@ module _ (cs₀ : List Cell) where
         wide = inv .wide;
         clocked = λ i. by-place (length ts) i
             (λ l. omega (arith, old-stamp i l, inv .clocked i))
-            (λ e. rw e (omega (arith, getD-last ts (suc (r .clock)) 0)))
+            (λ e. rw e (omega (arith, getD-append-seam ts (suc (r .clock)) [] 0)))
             (λ l. omega (arith, getD-past ts (suc (r .clock)) 0 i l));
         inputs = λ i l e. old-stamp i (ticket-inside i l) ∙ inv .inputs i l e;
         untouched = λ i l e. old-cell i (ticket-inside i l) ∙ inv .untouched i l (sym (old-stamp i (ticket-inside i l)) ∙ e);
         fed = λ i p. by-place (length ts) i
             (λ l. rw (old-cell i l) (later-under ts entry-stamps entered-later (getD ts i 0) (getD entry-stamps i 0) (omega (arith, old-stamp i l))
             (visit (cellIn (r .design .cells) i)) (inv .fed i (omega (arith, p, old-stamp i l)))))
-            (λ e. rw (new-cell i e) (rw (e, getD-last ts (suc (r .clock)) 0) (next-under entry-stamps entered-later (visit c) h)))
+            (λ e. rw (new-cell i e) (rw (e, getD-append-seam ts (suc (r .clock)) [] 0) (next-under entry-stamps entered-later (visit c) h)))
             (λ l. absurd (omega (arith, p, getD-past ts (suc (r .clock)) 0 i l)));
         stands = λ i d l. later-stands ts entry-stamps entered-later i (getD (r .design .replaced) i d) (inv .stands i d l);
       }
 
       pub entered-settled : length (r .design .cells) < limit → Settled cs₀ entry-stamps (netIn (length (r .design .cells)))
       unfolding Settled
-      entered-settled l = rw (driver-net (length (r .design .cells)) l) (inr (rw (sym (inv .sizes), getD-last ts (suc (r .clock)) 0) (omega arith)))
+      entered-settled l =
+          drives-in (SettledSlot cs₀ entry-stamps) (length (r .design .cells)) (omega arith)
+          (inr (rw (sym (inv .sizes), getD-append-seam ts (suc (r .clock)) [] 0) (omega arith)))
 
     -- a slot is finished
     module _ (s : ℕ) (d : Design) (es : List Entry) (small : s < tickets cs₀) (waiting : getD ts s 0 ≡ 0) (gate : isInput (cellIn cs₀ s) ≡ false) where
@@ -153,7 +153,7 @@ module _ (cs₀ : List Cell) where
       finished-later i h = else-stamp i (not-s i h)
 
       pub finished-inv : length (d .cells) ≡ length (r .design .cells) → ((i : ℕ) → (i ≡ s → ⊥) → cellIn (d .cells) i ≡ cellIn (r .design .cells) i)
-          → Nets (Settled cs₀ ts) (visit (cellIn (d .cells) s)) → length (d .replaced) ≡ tickets cs₀
+          → All (Settled cs₀ ts) (visit (cellIn (d .cells) s)) → length (d .replaced) ≡ tickets cs₀
           → ((i : ℕ) (x : Net) → (i ≡ s → ⊥) → getD (d .replaced) i x ≡ getD (r .design .replaced) i x)
           → ((x : Net) → (getD (d .replaced) s x ≡ netIn s) ⊎ Settled cs₀ ts (getD (d .replaced) s x)) → Inv cs₀ (finished r s d es)
       unfolding finished

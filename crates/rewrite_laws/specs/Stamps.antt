@@ -1,13 +1,11 @@
 -- Stamps of what a look-up gives. Assumes nothing: these are definitions.
-use mathlib.Core.List.{List, [], _∷_}
+use mathlib.Core.List.{List}
 use Prim.Native.Nat.{ℕ, _<_}
 use Rattle.value.specs.declared.Net.{Net}
-use Rattle.cell.specs.declared.Cell.{Cell}
 use Rattle.design.specs.declared.Source.{Source}
 use Rattle.normalize.specs.declared.Outcome.{Outcome}
-use Rattle.normalize.specs.declared.Outcome.the-variants.{None, Value, Form, Add, NotOf, AddNotOf}
-use Rattle.aig_laws.specs.Reads.{SourceNets}
 use Rattle.rewrite.specs.Rewriter.{Rewriter, Lookup, stamp, weight, findCell}
+use Rattle.aig_laws.specs.Reads.{SourceNets, GoodOutcome}
 
 -- the operands of the cell that was looked up are stamped below m
 abbrev pub SourceBefore : List ℕ → ℕ → Source → Type 0
@@ -19,9 +17,4 @@ Stamped look r = (n : Net) → SourceBefore (r .stamps) (stamp (r .stamps) n) (f
 
 -- the cell that an outcome goes on with, or adds, weighs less than m
 abbrev pub Lighter : List ℕ → ℕ → Outcome → Type 0
-Lighter ts m None = Unit {0}
-Lighter ts m (Value n) = Unit {0}
-Lighter ts m (Form c) = weight ts c < m
-Lighter ts m (Add c) = weight ts c < m
-Lighter ts m (NotOf c) = weight ts c < m
-Lighter ts m (AddNotOf c) = weight ts c < m
+Lighter ts m = GoodOutcome (λ c. weight ts c < m) (λ n. Unit {0})

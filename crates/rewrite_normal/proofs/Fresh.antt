@@ -4,67 +4,38 @@ use mathlib.Core.Path.{_≡_, refl, sym, ap, _∙_, subst}
 use mathlib.Core.Bool.{Bool, true, false, cond}
 use mathlib.Core.List.{List}
 use mathlib.Core.Logic.{_⊎_, inl, inr}
-use Prim.Native.Nat.{ℕ, zero, suc, _≤_, _<_}
+use Prim.Native.Nat.{ℕ, _≤_, _<_}
 use native.Mathlib.Omega.{arith}
 use lib.Dec.{eqb, ltb}
 use lib.ListN.{length, getD, List·getD-eq-default}
-use borrow.Author.Tests.{ltb-true, ltb-false}
+use borrow.Author.Tests.{ltb-true, ltb-false, ne-eqb}
+use Rattle.logic.specs.declared.Trit.{Trit}
+use Rattle.logic.specs.declared.Trit.the-variants.{Undef, Zero, One}
 use Rattle.value.specs.declared.Net.{Net}
 use Rattle.value.specs.declared.Slot.{Slot}
 use Rattle.value.specs.declared.Driver.{Driver}
 use Rattle.value.specs.declared.Driver.the-variants as driven
-use Rattle.value.specs.Value.{UNDEF, ZERO, ONE, eqNet, driver}
-use Rattle.value.proofs.Laws.{cell-driver}
+use Rattle.value.specs.Value.{UNDEF, ZERO, ONE, driver, fromTrit}
+use Rattle.value.proofs.Laws.{cell-driver, driver-const}
 use Rattle.cell.specs.declared.Cell.{Cell}
 use Rattle.netlist.specs.Shape.{visit, isInput, isOutput, hasEffects}
 use Rattle.netlist.specs.Netlist.{cellIn}
 use Rattle.design.specs.declared.Source.{Source}
 use Rattle.design.specs.declared.Source.the-variants.{Opaque, Known}
 use Rattle.design.specs.declared.Found.the-variants.{At}
-use Rattle.design.specs.Queue.{netIn, drivenTo, followed, mapNetNew, sourceIn, findNewCell, seek}
+use Rattle.design.specs.Queue.{netIn, drivenTo, mapNetNew, sourceIn, findNewCell, seek}
 use Rattle.normalize.specs.declared.Outcome.the-variants.{None}
 use Rattle.normalize.specs.Normalize.{normalize}
 use Rattle.aig.specs.Aig.{simpleAigOpt}
 use Rattle.rewrite.specs.Rewriter.{Rewriter, stampIn, stamp, findCell}
 use Rattle.order_laws.specs.Ordered.{has}
-use Rattle.order_laws.proofs.Walks.{either, or-left, eqb-not}
+use Rattle.order_laws.specs.Members.{Drives}
+use Rattle.order_laws.proofs.Truth.{either}
+use Rattle.order_laws.proofs.Members.{all-imp}
+use Rattle.order_laws.proofs.Operands.{drives-at, drives-in, drives-none}
+use Rattle.order_laws.proofs.Sorts.{gate-by, input-effects}
+use Rattle.order_laws.proofs.Queue.{mapped-final, mapped-once, replacement}
 use Rattle.aig_laws.specs.Reads.{GateOf, SourceNets}
-use Rattle.aig_laws.proofs.Strings.{eqNet-true}
-use Rattle.rewrite_laws.proofs.Settled.{nets-map}
-
-pub input-effects : (c : Cell) → isInput c ≡ true → hasEffects c ≡ true
-unfolding hasEffects
-input-effects c e = or-left (isInput c) (isOutput c) e
-
--- a net that no replacement leads on from stands for itself
-follow-final : (k : ℕ) (rs : List Net) (m : Net) → drivenTo rs m (driver m) ≡ m → followed k rs m ≡ m
-unfolding followed
-follow-final zero rs m e = refl
-follow-final (suc k) rs m e =
-    ap (λ (y : Net). cond (eqNet y m) m (followed k rs y)) e ∙ go (eqNet m m) (follow-final k rs m e)
-  where
-    go : (b : Bool) → followed k rs m ≡ m → cond b m (followed k rs m) ≡ m
-    go true q = refl
-    go false q = q
-
-pub mapNetNew-same : (rs : List Net) (m : Net) → drivenTo rs m (driver m) ≡ m → mapNetNew rs m ≡ m
-unfolding mapNetNew
-mapNetNew-same rs m e = follow-final (length rs) rs m e
-
--- a net that is replaced by one that no replacement leads on from
-pub mapNetNew-once : (rs : List Net) (m m′ : Net) → 0 < length rs → drivenTo rs m (driver m) ≡ m′ → drivenTo rs m′ (driver m′) ≡ m′ → mapNetNew rs m ≡ m′
-unfolding mapNetNew followed
-mapNetNew-once rs m m′ l e f = go (length rs) l
-  where
-    either-way : (b : Bool) (y : Net) → eqNet m′ m ≡ b → y ≡ m′ → cond b m y ≡ m′
-    either-way true y q g = sym (eqNet-true m′ m q)
-    either-way false y q g = g
-
-    go : (k : ℕ) → 0 < k → followed k rs m ≡ m′
-    go zero h = absurd (omega arith)
-    go (suc k) h =
-        ap (λ (y : Net). cond (eqNet y m) m (followed k rs y)) e
-        ∙ either-way (eqNet m′ m) (followed k rs m′) refl (follow-final k rs m′ f)
 
 module _ (cs₀ : List Cell) where
   abbrev pub tickets : ℕ
@@ -74,20 +45,18 @@ module _ (cs₀ : List Cell) where
   abbrev pub FreshSlot : ℕ → ℕ → Type 0
   FreshSlot n s = ((s < tickets) × (isInput (cellIn cs₀ s) ≡ true)) ⊎ ((tickets ≤ s) × (s < n))
 
-  abbrev pub FreshBy : ℕ → Driver → Type 0
-  FreshBy n (driven.Const t) = Unit {0}
-  FreshBy n (driven.Cell s) = FreshSlot n (s .0)
-
   unfoldable pub Fresh : ℕ → Net → Type 0
-  Fresh n m = FreshBy n (driver m)
+  Fresh n = Drives (FreshSlot n)
 
-  pub fresh-by : (n : ℕ) (m : Net) (x : Driver) → driver m ≡ x → FreshBy n x → Fresh n m
+  pub fresh-in : (n k : ℕ) → k ≤ 4294967292 → FreshSlot n k → Fresh n (netIn k)
   unfolding Fresh
-  fresh-by n m x e h = subst (FreshBy n) (sym e) h
+  fresh-in n k l h = drives-in (FreshSlot n) k l h
 
   pub fresh-constants : (n : ℕ) → Fresh n UNDEF × Fresh n ZERO × Fresh n ONE
-  unfolding Fresh driver eqNet
-  fresh-constants n = (tt, tt, tt)
+  unfolding Fresh
+  fresh-constants n =
+      let none : (t : Trit) → Drives (FreshSlot n) (fromTrit t) = λ t. drives-none (FreshSlot n) (fromTrit t) t (driver-const t) in
+      (none Undef, none Zero, none One)
 
   slot-more : (n k s : ℕ) → n ≤ k → FreshSlot n s → FreshSlot k s
   slot-more n k s l (inl i) = inl i
@@ -95,11 +64,7 @@ module _ (cs₀ : List Cell) where
 
   pub fresh-more : (n k : ℕ) → n ≤ k → (m : Net) → Fresh n m → Fresh k m
   unfolding Fresh
-  fresh-more n k l m h = go (driver m) h
-    where
-      go : (x : Driver) → FreshBy n x → FreshBy k x
-      go (driven.Const t) q = tt
-      go (driven.Cell s) q = slot-more n k (s .0) l q
+  fresh-more n k l m h x e = slot-more n k (x .0) l (h x e)
 
   -- what is seen of a fresh net: an added cell, and nothing of an input
   abbrev pub seenBy : List Cell → Driver → Source
@@ -112,16 +77,16 @@ module _ (cs₀ : List Cell) where
   -- it is the same as long as the added cells are
   pub seen-same : (n : ℕ) (cs cs′ : List Cell) → ((i : ℕ) → tickets ≤ i → i < n → cellIn cs′ i ≡ cellIn cs i) → (m : Net) → Fresh n m → seen cs m ≡ seen cs′ m
   unfolding Fresh seen
-  seen-same n cs cs′ same m h = go (driver m) h
+  seen-same n cs cs′ same m h = go (driver m) refl
     where
       slot : (s : ℕ) → FreshSlot n s → (b : Bool) → ltb s tickets ≡ b → cond b Opaque (Known (cellIn cs s)) ≡ cond b Opaque (Known (cellIn cs′ s))
       slot s h true e = refl
       slot s (inl i) false e = absurd (omega (arith, i .0, ltb-false s tickets e))
       slot s (inr p) false e = ap Known (sym (same s (p .0) (p .1)))
 
-      go : (x : Driver) → FreshBy n x → seenBy cs x ≡ seenBy cs′ x
-      go (driven.Const t) q = refl
-      go (driven.Cell s) q = slot (s .0) q (ltb (s .0) tickets) refl
+      go : (x : Driver) → driver m ≡ x → seenBy cs x ≡ seenBy cs′ x
+      go (driven.Const t) e = refl
+      go (driven.Cell s) e = slot (s .0) (h s e) (ltb (s .0) tickets) refl
 
   -- an added cell in slot i: a gate that reads fresh nets of lower slots, and to which no rule applies
   pub record Lasting (cs : List Cell) (i : ℕ) (c : Cell) : Type 0 where
@@ -152,50 +117,46 @@ module _ (cs₀ : List Cell) where
     total = length (r .design .cells)
 
     -- a fresh net is not replaced
-    fresh-final : (m : Net) → Fresh total m → drivenTo rs m (driver m) ≡ m
+    fresh-final : (m : Net) → Fresh total m → replacement rs m ≡ m
     unfolding Fresh
-    fresh-final m h = go (driver m) refl h
+    fresh-final m h = go (driver m) refl
       where
         slot : (s : Slot) → driver m ≡ driven.Cell s → FreshSlot total (s .0) → getD rs (s .0) m ≡ m
         slot s e (inl i) = st .stays (s .0) m (i .0) (input-effects (cellIn cs₀ (s .0)) (i .1)) ∙ sym (cell-driver m s e)
         slot s e (inr p) = List·getD-eq-default rs m {n = s .0} (omega (arith, st .wide, p .0))
 
-        go : (x : Driver) → driver m ≡ x → FreshBy total x → drivenTo rs m x ≡ m
-        go (driven.Const t) e q = refl
-        go (driven.Cell s) e q = slot s e q
+        go : (x : Driver) → driver m ≡ x → drivenTo rs m x ≡ m
+        go (driven.Const t) e = refl
+        go (driven.Cell s) e = slot s e (h s e)
 
     pub map-fresh : (m : Net) → Fresh total m → mapNetNew rs m ≡ m
-    map-fresh m h = mapNetNew-same rs m (fresh-final m h)
+    map-fresh m h = mapped-final rs m (fresh-final m h)
 
     -- a net of the ticket that rewriting is through with
     abbrev pub Through : Net → Type 0
-    Through m = (x : Slot) → driver m ≡ driven.Cell x
-        → (x .0 < tickets) × (isOutput (cellIn cs₀ (x .0)) ≡ false) × ((isInput (cellIn cs₀ (x .0)) ≡ false) → has (x .0) before ≡ true)
-
-    gate-by : (c : Cell) → isInput c ≡ false → isOutput c ≡ false → hasEffects c ≡ false
-    unfolding hasEffects
-    gate-by c i o = rw (i, o)
+    Through = Drives (λ x. (x < tickets) × (isOutput (cellIn cs₀ x) ≡ false) × (isInput (cellIn cs₀ x) ≡ false → has x before ≡ true))
 
     pub map-through : (m : Net) → Through m → Fresh total (mapNetNew rs m)
+    unfolding Fresh
     map-through m h = go (driver m) refl
       where
         same : Fresh total m → Fresh total (mapNetNew rs m)
         same f = subst (Fresh total) (sym (map-fresh m f)) f
 
         go : (x : Driver) → driver m ≡ x → Fresh total (mapNetNew rs m)
-        go (driven.Const t) e = same (fresh-by total m (driven.Const t) e tt)
+        go (driven.Const t) e = same (drives-none (FreshSlot total) m t e)
         go (driven.Cell s) e =
             let k = h s e in
             either (isInput (cellIn cs₀ (s .0)))
-            (λ i. same (fresh-by total m (driven.Cell s) e (inl (k .0, i))))
+            (λ i. same (drives-at (FreshSlot total) m s e (inl (k .0, i))))
             (λ i. let f : Fresh total (getD rs (s .0) m) = st .done (s .0) m (k .0) (k .2 i) (gate-by (cellIn cs₀ (s .0)) i (k .1)) in
-            subst (Fresh total) (sym (mapNetNew-once rs m (getD rs (s .0) m) (omega (arith, k .0, st .wide)) (ap (drivenTo rs m) e) (fresh-final (getD rs (s .0) m) f))) f)
+            subst (Fresh total) (sym (mapped-once rs m (getD rs (s .0) m) (omega (arith, k .0, st .wide)) (ap (drivenTo rs m) e) (fresh-final (getD rs (s .0) m) f))) f)
 
     -- the look-up of a fresh net
     pub look-fresh : (m : Net) → Fresh total m → findCell findNewCell r m ≡ seen (r .design .cells) m
     unfolding findCell findNewCell stamp seen Fresh
     look-fresh m h =
-        ap (λ (y : Net). cond (eqb (stampIn (r .stamps) (driver m)) 0) Opaque (sourceIn (r .design .cells) (driver y))) (map-fresh m h) ∙ go (driver m) h
+        ap (λ (y : Net). cond (eqb (stampIn (r .stamps) (driver m)) 0) Opaque (sourceIn (r .design .cells) (driver y))) (map-fresh m h) ∙ go (driver m) refl
       where
         slot : (s : ℕ) → FreshSlot total s → cond (eqb (getD (r .stamps) s 0) 0) Opaque (Known (cellIn (r .design .cells) s))
             ≡ cond (ltb s tickets) Opaque (Known (cellIn (r .design .cells) s))
@@ -203,26 +164,26 @@ module _ (cs₀ : List Cell) where
             ap (λ (k : ℕ). cond (eqb k 0) Opaque (Known (cellIn (r .design .cells) s))) (st .ports s (i .0) (input-effects (cellIn cs₀ s) (i .1)))
             ∙ either (ltb s tickets) (λ e. rw e) (λ e. absurd (omega (arith, i .0, ltb-false s tickets e)))
         slot s (inr p) =
-            rw (eqb-not (getD (r .stamps) s 0) 0 (λ z. omega (arith, z, st .stamped s (p .0) (p .1))))
+            rw (ne-eqb (getD (r .stamps) s 0) 0 (λ z. omega (arith, z, st .stamped s (p .0) (p .1))))
             (either (ltb s tickets) (λ e. absurd (omega (arith, p .0, ltb-true s tickets e))) (λ e. rw e))
 
-        go : (x : Driver) → FreshBy total x → cond (eqb (stampIn (r .stamps) x) 0) Opaque (sourceIn (r .design .cells) x) ≡ seenBy (r .design .cells) x
-        go (driven.Const t) q = refl
-        go (driven.Cell s) q = slot (s .0) q
+        go : (x : Driver) → driver m ≡ x → cond (eqb (stampIn (r .stamps) x) 0) Opaque (sourceIn (r .design .cells) x) ≡ seenBy (r .design .cells) x
+        go (driven.Const t) e = refl
+        go (driven.Cell s) e = slot (s .0) (h s e)
 
     seen-reads : (m : Net) → Fresh total m → SourceNets (Fresh total) (seen (r .design .cells) m)
     unfolding seen Fresh
-    seen-reads m h = go (driver m) h
+    seen-reads m h = go (driver m) refl
       where
         slot : (s : ℕ) → FreshSlot total s → (b : Bool) → ltb s tickets ≡ b → SourceNets (Fresh total) (cond b Opaque (Known (cellIn (r .design .cells) s)))
         slot s q true e = tt
         slot s (inl i) false e = absurd (omega (arith, i .0, ltb-false s tickets e))
         slot s (inr p) false e =
-            nets-map (Fresh s) (Fresh total) (fresh-more s total (omega (arith, p .1))) (visit (cellIn (r .design .cells) s)) (st .adds s (p .0) (p .1) .reads .0)
+            all-imp (Fresh s) (Fresh total) (fresh-more s total (omega (arith, p .1))) (visit (cellIn (r .design .cells) s)) (st .adds s (p .0) (p .1) .reads .0)
 
-        go : (x : Driver) → FreshBy total x → SourceNets (Fresh total) (seenBy (r .design .cells) x)
-        go (driven.Const t) q = tt
-        go (driven.Cell s) q = slot (s .0) q (ltb (s .0) tickets) refl
+        go : (x : Driver) → driver m ≡ x → SourceNets (Fresh total) (seenBy (r .design .cells) x)
+        go (driven.Const t) e = tt
+        go (driven.Cell s) e = slot (s .0) (h s e) (ltb (s .0) tickets) refl
 
     pub look-reads : (m : Net) → Fresh total m → SourceNets (Fresh total) (findCell findNewCell r m)
     look-reads m h = subst (SourceNets (Fresh total)) (sym (look-fresh m h)) (seen-reads m h)

@@ -1,5 +1,6 @@
 pub mod Cells
 pub mod Fresh
+pub mod Adding
 pub mod Run
 pub mod Left
 pub mod Compacted

@@ -1,67 +1,45 @@
 -- The netlist of a run, after the change queue is applied and before it is compacted, is sound: stamps are its rank. Assumes nothing.
 use mathlib.Core.Path.{_≡_, refl, sym, ap, ap₂, _∙_, subst}
-use mathlib.Core.Bool.{true, false, true≢false}
+use mathlib.Core.Bool.{true, false, _&&_}
 use mathlib.Core.List.{List, _++_}
 use mathlib.Core.Logic.{inl, inr}
 use Prim.Native.Nat.{ℕ, _+_, _-_, _≤_, _<_}
 use native.Mathlib.Omega.{arith}
-use lib.Dec.{eqb, ltb}
-use lib.ListN.{length, getD, replicate, length-append, length-replicate, List·getD-append, getD-replicate}
-use lib.Seq.{getD-append-add}
-use borrow.Author.Tests.{eqb-true, eqb-false, ltb-true, ltb-false}
-use Rattle.value.specs.declared.ControlNet.the-variants.{Pos, Neg}
-use Rattle.value.specs.Value.{ZERO}
+use lib.Dec.{eqb, ltb, leb}
+use lib.ListN.{length, getD, replicate, length-append, length-replicate, List·getD-eq-default}
+use borrow.Author.Tests.{eqb-true, eqb-false, ltb-true, ltb-false, le-leb, leb-false, leb-true}
 use Rattle.cell.specs.declared.Cell.{Cell}
-use Rattle.cell.specs.declared.Cell.the-variants.{Input, Output, Buf, Not, And, Or, Xor, Mux, Aig}
 use Rattle.cell.specs.Kinds.{kindOf}
 use Rattle.cell.specs.Records.{cellRecord}
+use Rattle.checking.specs.Checking.{outOfSequence}
 use Rattle.netlist.specs.Shape.{visit, visitMut, isOutput, hasEffects}
 use Rattle.netlist.specs.Netlist.{Netlist, cellIn}
 use Rattle.design.specs.Queue.{applied}
-use Rattle.checking.specs.Checking.{outOfSequence}
 use Rattle.rewrite.specs.Rewriter.{Rewriter}
-use Rattle.order_laws.proofs.Walks.{either, never}
-use Rattle.levels_laws.specs.Algebra.{All, Before, Ranked}
-use Rattle.levels_laws.proofs.Operands.{all-imp}
-use Rattle.kept.proofs.Records.{record-bit, output-mapped, Continues, sequence-zero, sequence-mapped}
+use Rattle.order_laws.specs.Members.{All}
+use Rattle.order_laws.proofs.Truth.{either, never}
+use Rattle.order_laws.proofs.Members.{all-imp}
+use Rattle.order_laws.proofs.Sorts.{record-bit, output-mapped, effects-kind, kind-last, splittable-kind}
+use Rattle.order_laws.proofs.Lists.{getD-padded}
+use Rattle.order_laws.proofs.Queue.{applied-at, applied-length}
+use Rattle.levels_laws.specs.Algebra.{Before, Ranked}
+use Rattle.kept.proofs.Records.{Continues, sequence-zero, sequence-mapped}
 use Rattle.kept.proofs.Sound.{recordIn, NoOutput, Sound, bit-continues}
-use Rattle.kept.proofs.Bytes.{labelOf, label-kept, label-small, Labelled}
+use Rattle.kept.proofs.Bytes.{labelOf, Labelled, gate-label}
 use Rattle.rewrite_sound.proofs.Shaped.{InPlace, Holds}
-use Rattle.rewrite_sound.proofs.Operands.{Ended, was, follow, applied-length, applied-at, rank, Operand, operands-below, Below, operand-slot}
+use Rattle.rewrite_sound.proofs.Operands.{Ended, was, follow, rank, Operand, operands-below, Below, operand-slot}
 use Rattle.rewrite_sound.proofs.Ports.{more-slots, label-stays, ticket-effects, added-gate}
 
--- a cell that may be rewritten in its slot has one bit
+-- a cell that may be rewritten in its slot is an and-inverter, so it has one bit
 in-place-one-bit : (bit : ℕ) (c : Cell) → InPlace c → kindOf (cellRecord bit c .kind) .«one_bit» ≡ true
-unfolding cellRecord kindOf hasEffects
-in-place-one-bit bit (Input l) h = absurd (true≢false (h .1))
-in-place-one-bit bit (Output a l) h = absurd (true≢false (h .1))
-in-place-one-bit bit (Buf a) h = absurd (true≢false (h .0))
-in-place-one-bit bit (Not a) h = absurd (true≢false (h .0))
-in-place-one-bit bit (And a b) h = absurd (true≢false (h .0))
-in-place-one-bit bit (Or a b) h = absurd (true≢false (h .0))
-in-place-one-bit bit (Xor a b) h = absurd (true≢false (h .0))
-in-place-one-bit bit (Mux a b c) h = absurd (true≢false (h .0))
-in-place-one-bit bit (Aig p q) h = refl
-
--- a gate has no label: with constants for operands its record holds no number above 0
-zero-fields : (c : Cell) → hasEffects c ≡ false → (cellRecord 0 (visitMut (λ n. ZERO) c) .a ≡ 0) × (cellRecord 0 (visitMut (λ n. ZERO) c) .b ≡ 0)
-unfolding cellRecord visitMut hasEffects
-zero-fields (Input l) g = absurd (true≢false g)
-zero-fields (Output a l) g = absurd (true≢false g)
-zero-fields (Buf a) g = (refl, refl)
-zero-fields (Not a) g = (refl, refl)
-zero-fields (And a b) g = (refl, refl)
-zero-fields (Or a b) g = (refl, refl)
-zero-fields (Xor a b) g = (refl, refl)
-zero-fields (Mux a b c) g = (refl, refl)
-zero-fields (Aig (Pos a) (Pos b)) g = (refl, refl)
-zero-fields (Aig (Pos a) (Neg b)) g = (refl, refl)
-zero-fields (Aig (Neg a) (Pos b)) g = (refl, refl)
-zero-fields (Aig (Neg a) (Neg b)) g = (refl, refl)
-
-gate-label : (c : Cell) → hasEffects c ≡ false → labelOf c < 4294967296
-gate-label c g =
-    subst (λ (l : ℕ). l < 4294967296) (label-kept (λ n. ZERO) c) (label-small 0 (visitMut (λ n. ZERO) c) (omega (arith, zero-fields c g)) (omega (arith, zero-fields c g)))
+unfolding kindOf
+in-place-one-bit bit c h =
+    let k : ℕ = cellRecord bit c .kind in
+    let low : 2 < k = leb-false k 2 (sym (effects-kind bit c) ∙ h .1) in
+    let last : k ≤ 9 = leb-true k 9 (kind-last bit c) in
+    let nine : 8 < k → k ≡ 9 = λ l. omega arith in
+    let out : (leb 3 k && leb k 8) ≡ false = sym (splittable-kind bit c) ∙ h .0 in
+    subst (λ (i : ℕ). kindOf i .«one_bit» ≡ true) (sym (nine (leb-false k 8 (sym (ap (λ b. b && leb k 8) (le-leb 3 k (omega arith))) ∙ out)))) refl
 
 -- the netlist of a run, before it is compacted
 abbrev pub appliedNetlist : List ℕ → Rewriter → Netlist
@@ -83,7 +61,7 @@ module _ (d₀ : Netlist) (rank₀ : ℕ → ℕ) (sound₀ : Sound d₀ rank₀
   ranks = rank r
 
   slots : length cs ≡ length (r .design .cells)
-  slots = applied-length r
+  slots = applied-length (r .design)
 
   is-ranked : Ranked cs ranks
   unfolding Ranked
@@ -97,28 +75,20 @@ module _ (d₀ : Netlist) (rank₀ : ℕ → ℕ) (sound₀ : Sound d₀ rank₀
   is-driven s l =
       all-imp (Operand cs₀ r end s) (NoOutput cs)
       (λ m o x e. let b : Below cs₀ r end s (x .0) = operand-slot cs₀ r end s m o x e in
-      ap isOutput (applied-at r (x .0) (b .inside)) ∙ output-mapped (follow r) (was r (x .0)) ∙ b .other)
+      ap isOutput (applied-at (r .design) (x .0) (b .inside)) ∙ output-mapped (follow r) (was r (x .0)) ∙ b .other)
       (visit (cellIn cs s)) (operands-below cs₀ r end s l)
 
   -- the bits of the ticket's slots stay, and added cells have bit 0
   bits-wide : length (d₀ .bits) ≡ length cs₀
   bits-wide = sound₀ .wide
 
-  old-bit : (s : ℕ) → s < length cs₀ → getD (after .bits) s 0 ≡ getD (d₀ .bits) s 0
-  old-bit s l = List·getD-append (d₀ .bits) (replicate (length cs - length (d₀ .bits)) 0) 0 s (omega (arith, bits-wide))
-
-  new-bit : (s : ℕ) → length cs₀ ≤ s → s < length cs → getD (after .bits) s 0 ≡ 0
-  new-bit s l m =
-      let e : length (d₀ .bits) ≡ length cs₀ = bits-wide in
-      let i : s ≡ length (d₀ .bits) + (s - length (d₀ .bits)) = omega arith in
-      ap (λ (k : ℕ). getD (after .bits) k 0) i
-      ∙ getD-append-add (d₀ .bits) (replicate (length cs - length (d₀ .bits)) 0) (s - length (d₀ .bits)) 0
-      ∙ getD-replicate (length cs - length (d₀ .bits)) (s - length (d₀ .bits)) 0 0 (omega arith)
+  same-bit : (s : ℕ) → getD (after .bits) s 0 ≡ getD (d₀ .bits) s 0
+  same-bit s = getD-padded (d₀ .bits) (length cs - length (d₀ .bits)) s 0
 
   -- a cell of more than one bit stays
   wide-stays : (s : ℕ) → s < length cs₀ → kindOf (recordIn d₀ s .kind) .«one_bit» ≡ false → recordIn after s ≡ cellRecord (getD (d₀ .bits) s 0) (visitMut (follow r) (cellIn cs₀ s))
   wide-stays s l h =
-      ap₂ cellRecord (old-bit s l) (applied-at r s (omega (arith, slots, more-slots cs₀ r end)) ∙ ap (visitMut (follow r)) (go (end .shaped .olds s l)))
+      ap₂ cellRecord (same-bit s) (applied-at (r .design) s (omega (arith, slots, more-slots cs₀ r end)) ∙ ap (visitMut (follow r)) (go (end .shaped .olds s l)))
     where
       go : Holds (cellIn cs₀ s) (was r s) → was r s ≡ cellIn cs₀ s
       go (inl e) = e
@@ -140,9 +110,9 @@ module _ (d₀ : Netlist) (rank₀ : ℕ → ℕ) (sound₀ : Sound d₀ rank₀
   is-sequence s m =
       either (ltb s (length cs₀))
       (λ e. let l : s < length cs₀ = ltb-true s (length cs₀) e in
-      either (eqb (getD (d₀ .bits) s 0) 0) (λ z. zero-sequence s (old-bit s l ∙ eqb-true (getD (d₀ .bits) s 0) 0 z))
+      either (eqb (getD (d₀ .bits) s 0) 0) (λ z. zero-sequence s (same-bit s ∙ eqb-true (getD (d₀ .bits) s 0) 0 z))
       (λ z. later-sequence s l (eqb-false (getD (d₀ .bits) s 0) 0 z)))
-      (λ e. zero-sequence s (new-bit s (ltb-false s (length cs₀) e) m))
+      (λ e. zero-sequence s (same-bit s ∙ List·getD-eq-default (d₀ .bits) 0 {n = s} (omega (arith, bits-wide, ltb-false s (length cs₀) e))))
 
   -- the law
   pub applied-sound : Sound (appliedNetlist (d₀ .bits) r) (rank r)
@@ -163,5 +133,8 @@ module _ (d₀ : Netlist) (rank₀ : ℕ → ℕ) (sound₀ : Sound d₀ rank₀
       either (ltb s (length cs₀))
       (λ e. let l : s < length cs₀ = ltb-true s (length cs₀) e in
       either (hasEffects (cellIn cs₀ s)) (λ g. subst (λ (k : ℕ). k < 4294967296) (sym (label-stays cs₀ r end s l g)) (h s l))
-      (λ g. gate-label (cellIn cs s) (ticket-effects cs₀ r end s l ∙ g)))
-      (λ e. gate-label (cellIn cs s) (added-gate cs₀ r end s (ltb-false s (length cs₀) e) m))
+      (λ g. no-label (cellIn cs s) (ticket-effects cs₀ r end s l ∙ g)))
+      (λ e. no-label (cellIn cs s) (added-gate cs₀ r end s (ltb-false s (length cs₀) e) m))
+    where
+      no-label : (c : Cell) → hasEffects c ≡ false → labelOf c < 4294967296
+      no-label c g = omega (arith, gate-label c g)

@@ -11,9 +11,9 @@ use Rattle.cell.specs.Bytes.{bytes16, bytes32}
 use Rattle.cell.specs.Records.{bytesOf, cellRecord}
 use Rattle.netlist.specs.Netlist.{Netlist, joined, encode, ticketOf}
 use Rattle.calls.specs.Calls.{encoded}
-use Rattle.levels_laws.specs.Algebra.{All}
+use Rattle.order_laws.specs.Members.{All}
+use Rattle.order_laws.proofs.Members.{all-append, all-tabulate}
 use Rattle.kept.specs.Kept.{Bytes}
-use Rattle.kept.proofs.Lists.{all-append, all-tabulate}
 use Rattle.kept.proofs.Sound.{recordIn}
 
 abbrev Byte : ℕ → Type 0

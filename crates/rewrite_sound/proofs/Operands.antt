@@ -2,61 +2,39 @@
 -- below the slot. Assumes nothing.
 use mathlib.Core.Path.{_≡_, sym, ap, _∙_, subst}
 use mathlib.Core.Bool.{Bool, true, false, cond}
-use mathlib.Core.List.{List, [], _∷_}
+use mathlib.Core.List.{List}
 use mathlib.Core.Logic.{inl, inr}
 use Prim.Native.Nat.{ℕ, suc, _≤_, _<_}
 use native.Mathlib.Omega.{arith}
-use lib.Dec.{eqb, ltb}
-use lib.ListN.{length, getD, length-map}
-use borrow.Author.Tests.{eqb-true, ltb-true, ltb-false}
+use lib.Dec.{ltb}
+use lib.ListN.{length, getD}
+use borrow.Author.Tests.{ltb-true, ltb-false}
 use Rattle.value.specs.declared.Net.{Net}
 use Rattle.value.specs.declared.Slot.{Slot}
-use Rattle.value.specs.declared.Driver.{Driver}
 use Rattle.value.specs.declared.Driver.the-variants as driven
 use Rattle.value.specs.Value.{driver}
 use Rattle.cell.specs.declared.Cell.{Cell}
-use Rattle.cell.specs.declared.Cell.the-variants.{Input}
-use Rattle.cell.specs.Records.{cellRecord}
-use Rattle.netlist.specs.Shape.{visit, visitMut, isInput, isOutput, hasEffects}
+use Rattle.netlist.specs.Shape.{visit, isInput, isOutput, hasEffects}
 use Rattle.netlist.specs.Netlist.{cellIn}
 use Rattle.order.specs.Orders.{topoSort}
 use Rattle.design.specs.Queue.{mapNetNew, applied}
-use Rattle.rewrite.specs.Rewriter.{Rewriter, stampIn, stamp}
-use Rattle.order_laws.proofs.Walks.{either, never, or-left, or-right}
+use Rattle.rewrite.specs.Rewriter.{Rewriter, stamp}
+use Rattle.order_laws.specs.Members.{All, Wired}
 use Rattle.order_laws.proofs.Bits.{topoSort-each}
-use Rattle.aig_laws.specs.Reads.{Nets}
-use Rattle.rewrite_laws.proofs.Settled.{limit, stamped-inside, nets-map, input-reads, SettledSlot, SettledBy, Settled, Under, Inv, map-settled, map-lower}
-use Rattle.rewrite_laws.proofs.Running.{WiredBy, Wired, State}
+use Rattle.order_laws.proofs.Truth.{either, never}
+use Rattle.order_laws.proofs.Members.{all-imp}
+use Rattle.order_laws.proofs.Operands.{input-reads, visited-all}
+use Rattle.order_laws.proofs.Sorts.{gate-by, gate-parts, input-effects, input-no-output}
+use Rattle.order_laws.proofs.Queue.{applied-at, applied-length}
+use Rattle.rewrite_laws.proofs.Settled.{limit, stamped-inside, SettledSlot, Settled, Under, Inv, map-settled, map-lower, stamp-driven}
+use Rattle.rewrite_laws.proofs.Keeping.{State}
+use Rattle.rewrite_laws.proofs.Steps.{stamp-clocked}
 use Rattle.accepted_laws.proofs.Final.{Final, mapNetNew-final}
-use Rattle.levels_laws.specs.Algebra.{All}
-use Rattle.levels_laws.proofs.Operands.{all-imp, all-map, visit-visitMut}
-use Rattle.kept.proofs.Lists.{getD-mapped}
-use Rattle.kept.proofs.Records.{input-kind, output-kind}
 use Rattle.rewrite_sound.proofs.Shaped.{Holds, holds-effects, Shaped}
-
-all-nets : (P : Net → Type 0) (ns : List Net) → Nets P ns → All P ns
-unfolding All Nets
-all-nets P [] h = tt
-all-nets P (n ∷ ns) h = (h .0, all-nets P ns (h .1))
-
-no-output : (c : Cell) → hasEffects c ≡ false → isOutput c ≡ false
-unfolding hasEffects
-no-output c e = either (isOutput c) (λ o. never (or-right (isInput c) (isOutput c) o) e) (λ o. o)
-
-pub input-effects : (c : Cell) → isInput c ≡ true → hasEffects c ≡ true
-unfolding hasEffects
-input-effects c e = or-left (isInput c) (isOutput c) e
-
-gate-by : (c : Cell) → isInput c ≡ false → isOutput c ≡ false → hasEffects c ≡ false
-unfolding hasEffects
-gate-by c i o = rw (i, o)
-
-input-no-output : (c : Cell) → isInput c ≡ true → isOutput c ≡ false
-input-no-output c e = output-kind 0 c ∙ ap (λ (k : ℕ). eqb k 2) (eqb-true (cellRecord 0 c .kind) 1 (sym (input-kind 0 c) ∙ e))
 
 -- the state at the end of a run over a ticket whose operands name slots other than outputs
 pub record Ended (cs₀ : List Cell) (r : Rewriter) : Type 0 where
-  pub wired : (s : ℕ) → s < length cs₀ → Nets (Wired cs₀) (visit (cellIn cs₀ s))
+  pub wired : (s : ℕ) → s < length cs₀ → All (Wired cs₀) (visit (cellIn cs₀ s))
   pub state : State cs₀ (topoSort cs₀) r
   pub shaped : Shaped cs₀ r
   pub few : length (r .design .cells) ≤ limit
@@ -69,14 +47,6 @@ module _ (r : Rewriter) where
 
   abbrev pub follow : Net → Net
   follow = mapNetNew (r .design .replaced)
-
-  pub applied-length : length (applied (r .design)) ≡ length (r .design .cells)
-  unfolding applied
-  applied-length = length-map (r .design .cells) (visitMut follow)
-
-  pub applied-at : (s : ℕ) → s < length (r .design .cells) → cellIn (applied (r .design)) s ≡ visitMut follow (was s)
-  unfolding applied
-  applied-at s l = getD-mapped (visitMut follow) (r .design .cells) s (Input 0) (Input 0) l
 
   -- the stamp of a slot, and for an output, which has none, one above all
   abbrev pub rank : ℕ → ℕ
@@ -112,7 +82,7 @@ module _ (cs₀ : List Cell) (r : Rewriter) (end : Ended cs₀ r) where
     let m : length cs₀ ≤ total = inv .many in let l : s < length cs₀ = i .0 in omega arith,
     ap isOutput (port-stays s (i .0) (input-effects (cellIn cs₀ s) (i .1))) ∙ input-no-output (cellIn cs₀ s) (i .1),
   )
-  settled-slot s (inr p) = (inside, no-output (was r s) gate)
+  settled-slot s (inr p) = (inside, gate-parts (was r s) gate .1)
     where
       inside : s < total
       inside = omega (arith, stamped-inside ts s p, inv .sizes)
@@ -124,24 +94,13 @@ module _ (cs₀ : List Cell) (r : Rewriter) (end : Ended cs₀ r) where
           ∙ either (hasEffects (cellIn cs₀ s)) (λ h. absurd (omega (arith, p, end .shaped .ports s l h))) (λ h. h))
           (λ e. end .shaped .adds s (ltb-false s (length cs₀) e) inside .0)
 
-  stamp-clocked : (m : Net) → stamp ts m ≤ r .clock
-  unfolding stamp
-  stamp-clocked m = go (driver m)
-    where
-      go : (x : Driver) → stampIn ts x ≤ r .clock
-      go (driven.Const t) = omega arith
-      go (driven.Cell s) = inv .clocked (s .0)
-
   -- all of the ticket's operands are settled
   wired-settled : (m : Net) → Wired cs₀ m → Settled cs₀ ts m
-  unfolding Wired Settled
-  wired-settled m w = go (driver m) w
-    where
-      go : (x : Driver) → WiredBy cs₀ x → SettledBy cs₀ ts x
-      go (driven.Const t) k = tt
-      go (driven.Cell s) k =
-          either (isInput (cellIn cs₀ (s .0))) (λ i. inl (k .0, i))
-          (λ i. inr (end .state .done (s .0) (k .0) (topoSort-each cs₀ .all (s .0) (k .0)) (gate-by (cellIn cs₀ (s .0)) i (k .1))))
+  unfolding Settled
+  wired-settled m w x e =
+      let k = w x e in
+      either (isInput (cellIn cs₀ (x .0))) (λ i. inl (k .0, i))
+      (λ i. inr (end .state .done (x .0) (k .0) (topoSort-each cs₀ .all (x .0) (k .0)) (gate-by (cellIn cs₀ (x .0)) i (k .1))))
 
   -- the operands of a slot before the queue is applied
   abbrev Lower : ℕ → Net → Type 0
@@ -150,19 +109,18 @@ module _ (cs₀ : List Cell) (r : Rewriter) (end : Ended cs₀ r) where
   stamped-lower : (s : ℕ) → 0 < getD ts s 0 → All (Lower s) (visit (was r s))
   stamped-lower s p =
       let q : rank r s ≡ getD ts s 0 = rank-other r s (settled-slot s (inr p) .1) in
-      all-nets (Lower s) (visit (was r s))
-      (nets-map (Under cs₀ ts (getD ts s 0)) (Lower s) (λ m u. (u .0, subst (λ (k : ℕ). stamp ts m < k) (sym q) (u .1))) (visit (was r s)) (inv .fed s p))
+      all-imp (Under cs₀ ts (getD ts s 0)) (Lower s) (λ m u. (u .0, subst (λ (k : ℕ). stamp ts m < k) (sym q) (u .1))) (visit (was r s)) (inv .fed s p)
 
   port-lower : (s : ℕ) → s < length cs₀ → hasEffects (cellIn cs₀ s) ≡ true → All (Lower s) (visit (was r s))
-  port-lower s l e = all-nets (Lower s) (visit (was r s)) (subst (λ (c : Cell). Nets (Lower s) (visit c)) (sym (port-stays s l e))
+  port-lower s l e = subst (λ (c : Cell). All (Lower s) (visit c)) (sym (port-stays s l e))
       (either (isInput (cellIn cs₀ s)) (λ i. input-reads (Lower s) (cellIn cs₀ s) i)
-      (λ i. nets-map (Wired cs₀) (Lower s) (λ m w. (wired-settled m w, output m (output-by i))) (visit (cellIn cs₀ s)) (end .wired s l))))
+      (λ i. all-imp (Wired cs₀) (Lower s) (λ m w. (wired-settled m w, output m (output-by i))) (visit (cellIn cs₀ s)) (end .wired s l)))
     where
       output-by : isInput (cellIn cs₀ s) ≡ false → isOutput (was r s) ≡ true
       output-by i = either (isOutput (cellIn cs₀ s)) (λ o. ap isOutput (port-stays s l e) ∙ o) (λ o. never e (gate-by (cellIn cs₀ s) i o))
 
       output : (m : Net) → isOutput (was r s) ≡ true → stamp ts m < rank r s
-      output m o = let k : stamp ts m ≤ r .clock = stamp-clocked m in let q : rank r s ≡ suc (r .clock) = rank-output r s o in omega arith
+      output m o = let k : stamp ts m ≤ r .clock = stamp-clocked cs₀ r inv m in let q : rank r s ≡ suc (r .clock) = rank-output r s o in omega arith
 
   operands-lower : (s : ℕ) → s < total → All (Lower s) (visit (was r s))
   operands-lower s l = either (ltb s (length cs₀))
@@ -178,16 +136,16 @@ module _ (cs₀ : List Cell) (r : Rewriter) (end : Ended cs₀ r) where
 
   followed-operand : (s : ℕ) (m : Net) → Lower s m → Operand s (follow r m)
   followed-operand s m k = record {
-    settled = map-settled cs₀ r inv (end .few) m (k .0);
+    settled = map-settled cs₀ r inv m (k .0);
     final = mapNetNew-final cs₀ r inv m;
-    below = let a : stamp ts (follow r m) ≤ stamp ts m = map-lower cs₀ r inv (end .few) m (k .0) in let b : stamp ts m < rank r s = k .1 in omega arith;
+    below = let a : stamp ts (follow r m) ≤ stamp ts m = map-lower cs₀ r inv m (k .0) in let b : stamp ts m < rank r s = k .1 in omega arith;
   }
 
   pub operands-below : (s : ℕ) → s < length (applied (r .design)) → All (Operand s) (visit (cellIn (applied (r .design)) s))
   operands-below s l =
-      let k : s < total = omega (arith, applied-length r) in
-      subst (All (Operand s)) (sym (ap visit (applied-at r s k) ∙ visit-visitMut (follow r) (was r s)))
-      (all-map (follow r) (Operand s) (visit (was r s)) (all-imp (Lower s) (λ m. Operand s (follow r m)) (followed-operand s) (visit (was r s)) (operands-lower s k)))
+      let k : s < total = omega (arith, applied-length (r .design)) in
+      subst (λ (c : Cell). All (Operand s) (visit c)) (sym (applied-at (r .design) s k))
+      (visited-all (Operand s) (follow r) (was r s) (all-imp (Lower s) (λ m. Operand s (follow r m)) (followed-operand s) (visit (was r s)) (operands-lower s k)))
 
   -- the same by the slot that drives the operand: the rank falls
   pub record Below (s x : ℕ) : Type 0 where
@@ -196,10 +154,10 @@ module _ (cs₀ : List Cell) (r : Rewriter) (end : Ended cs₀ r) where
     pub falls : rank r x < rank r s
 
   pub operand-slot : (s : ℕ) (m : Net) → Operand s m → (x : Slot) → driver m ≡ driven.Cell x → Below s (x .0)
-  unfolding Settled stamp
+  unfolding Settled
   operand-slot s m k x e =
-      let a : (x .0 < total) × (isOutput (was r (x .0)) ≡ false) = settled-slot (x .0) (subst (SettledBy cs₀ ts) e (k .settled)) in
-      let b : stamp ts m ≡ getD ts (x .0) 0 = ap (stampIn ts) e in
+      let a : (x .0 < total) × (isOutput (was r (x .0)) ≡ false) = settled-slot (x .0) (k .settled x e) in
+      let b : stamp ts m ≡ getD ts (x .0) 0 = stamp-driven ts m x e in
       let c : rank r (x .0) ≡ getD ts (x .0) 0 = rank-other r (x .0) (a .1) in
       let d : stamp ts m < rank r s = k .below in
       record { inside = a .0; other = a .1; falls = omega arith }

@@ -2,44 +2,27 @@
 -- input is given its old level of a stimulus. Assumes nothing.
 use mathlib.Core.Path.{_≡_, sym, ap, _∙_}
 use mathlib.Core.Bool.{Bool, true, false, cond}
-use mathlib.Core.List.{List, [], _∷_, _++_, append-nil}
-use Prim.Native.Nat.{ℕ, zero, suc, _+_, _≤_, _<_}
+use mathlib.Core.List.{List, [], _∷_}
+use Prim.Native.Nat.{ℕ, zero, suc, _+_, _≤_, _<_, _-_}
 use native.Mathlib.Omega.{arith}
-use lib.Dec.{eqb}
 use lib.ListN.{length, getD, drop}
-use borrow.Author.Tests.{eqb-true, eqb-false}
 use Rattle.logic.specs.declared.Trit.the-variants.{Undef}
 use Rattle.logic.specs.Levels.{levelOf}
 use Rattle.value.specs.declared.Net.{Net}
 use Rattle.cell.specs.declared.Cell.{Cell}
-use Rattle.cell.specs.Tabulate.{tabulate}
 use Rattle.netlist.specs.Shape.{visitMut, isInput, isOutput, hasEffects}
 use Rattle.netlist.specs.Netlist.{cellIn, slots, those}
 use Rattle.design.specs.Queue.{applied}
-use Rattle.levels.specs.Evaluate.{givenLevels, inputSlots, outputSlots}
 use Rattle.rewrite.specs.Rewriter.{Rewriter}
-use Rattle.order_laws.proofs.Walks.{either, never, or-right}
-use Rattle.rewrite_laws.proofs.Running.{visitMut-effects}
-use Rattle.kept.proofs.Lists.{those-append, those-same, all-tabulate}
-use Rattle.kept.proofs.Records.{input-mapped, output-mapped}
+use Rattle.levels.specs.Evaluate.{givenLevels, inputSlots, outputSlots}
+use Rattle.order_laws.proofs.Truth.{either, never}
+use Rattle.order_laws.proofs.Sorts.{effects-mapped, input-mapped, output-mapped, input-effects, output-effects}
+use Rattle.order_laws.proofs.Members.{those-same, all-tabulate}
+use Rattle.order_laws.proofs.Queue.{applied-at, applied-length}
 use Rattle.kept.proofs.Bytes.{labelOf, label-kept}
+use Rattle.kept.proofs.Chosen.{chosen, chosen-rest}
 use Rattle.rewrite_sound.proofs.Shaped.{holds-effects}
-use Rattle.rewrite_sound.proofs.Operands.{Ended, follow, applied-length, applied-at, port-stays, input-effects}
-
-output-effects : (c : Cell) → isOutput c ≡ true → hasEffects c ≡ true
-unfolding hasEffects
-output-effects c e = or-right (isInput c) (isOutput c) e
-
--- slots that fail the test, behind the others
-those-more : (p : ℕ → Bool) (n m : ℕ) → n ≤ m → ((s : ℕ) → n ≤ s → s < m → p s ≡ false) → those p (slots m) ≡ those p (slots n)
-unfolding tabulate those
-those-more p n zero l h = let e : 0 ≡ n = omega arith in ap (λ (k : ℕ). those p (slots k)) e
-those-more p n (suc m) l h =
-    let ih : n ≤ m → those p (slots m) ≡ those p (slots n) = λ k. those-more p n m k (λ s a b. h s a (omega arith)) in
-    either (eqb n (suc m)) (λ e. ap (λ (k : ℕ). those p (slots k)) (sym (eqb-true n (suc m) e)))
-    (λ e. let k : n ≤ m = omega (arith, eqb-false n (suc m) e) in
-    those-append p (slots m) (m ∷ [])
-    ∙ ap (λ (b : Bool). those p (slots m) ++ cond b (m ∷ []) []) (h m k (omega arith)) ∙ append-nil (those p (slots m)) ∙ ih k)
+use Rattle.rewrite_sound.proofs.Operands.{Ended, follow, port-stays}
 
 -- a stimulus gives each input the same level, whatever cells stand behind
 given-before : (cs ds : List Cell) (bs : List ℕ) → length cs ≤ length ds → ((i : ℕ) → i < length cs → isInput (cellIn ds i) ≡ isInput (cellIn cs i))
@@ -57,23 +40,23 @@ module _ (cs₀ : List Cell) (r : Rewriter) (end : Ended cs₀ r) where
   cs = applied (r .design)
 
   pub more-slots : length cs₀ ≤ length cs
-  more-slots = let m : length cs₀ ≤ length (r .design .cells) = end .shaped .many in omega (arith, applied-length r)
+  more-slots = let m : length cs₀ ≤ length (r .design .cells) = end .shaped .many in omega (arith, applied-length (r .design))
 
   -- an input or output of the ticket is in its slot, and no other slot holds one
   pub port-cell : (s : ℕ) → s < length cs₀ → hasEffects (cellIn cs₀ s) ≡ true → cellIn cs s ≡ visitMut (follow r) (cellIn cs₀ s)
   port-cell s l e =
-      applied-at r s (omega (arith, more-slots, applied-length r)) ∙ ap (visitMut (follow r)) (port-stays cs₀ r end s l e)
+      applied-at (r .design) s (omega (arith, more-slots, applied-length (r .design))) ∙ ap (visitMut (follow r)) (port-stays cs₀ r end s l e)
 
   pub ticket-effects : (s : ℕ) → s < length cs₀ → hasEffects (cellIn cs s) ≡ hasEffects (cellIn cs₀ s)
   ticket-effects s l =
-      ap hasEffects (applied-at r s (omega (arith, more-slots, applied-length r)))
-      ∙ visitMut-effects (follow r) (cellIn (r .design .cells) s)
+      ap hasEffects (applied-at (r .design) s (omega (arith, more-slots, applied-length (r .design))))
+      ∙ effects-mapped (follow r) (cellIn (r .design .cells) s)
       ∙ holds-effects (cellIn cs₀ s) (cellIn (r .design .cells) s) (end .shaped .olds s l)
 
   pub added-gate : (s : ℕ) → length cs₀ ≤ s → s < length cs → hasEffects (cellIn cs s) ≡ false
   added-gate s l m =
-      let k : s < length (r .design .cells) = omega (arith, applied-length r) in
-      ap hasEffects (applied-at r s k) ∙ visitMut-effects (follow r) (cellIn (r .design .cells) s) ∙ end .shaped .adds s l k .0
+      let k : s < length (r .design .cells) = omega (arith, applied-length (r .design)) in
+      ap hasEffects (applied-at (r .design) s k) ∙ effects-mapped (follow r) (cellIn (r .design .cells) s) ∙ end .shaped .adds s l k .0
 
   -- cells of a sort that is always an input or output stand in their old order
   module _ (sort : Cell → Bool) (alike : (f : Net → Net) (c : Cell) → sort (visitMut f c) ≡ sort c) (effects : (c : Cell) → sort c ≡ true → hasEffects c ≡ true) where
@@ -89,8 +72,10 @@ module _ (cs₀ : List Cell) (r : Rewriter) (end : Ended cs₀ r) where
     found = those (λ s. sort (cellIn cs₀ s)) (slots (length cs₀))
 
     slots-stay : those (λ s. sort (cellIn cs s)) (slots (length cs)) ≡ found
+    unfolding chosen
     slots-stay =
-        those-more (λ s. sort (cellIn cs s)) (length cs₀) (length cs) more-slots (λ s l m. other (cellIn cs s) (added-gate s l m))
+        ap (λ (k : ℕ). those (λ s. sort (cellIn cs s)) (slots k)) (let q : length cs ≡ length cs₀ + (length cs - length cs₀) = omega (arith, more-slots) in q)
+        ∙ chosen-rest (λ s. sort (cellIn cs s)) (length cs₀) (length cs - length cs₀) (λ s l m. other (cellIn cs s) (added-gate s l (omega (arith, m, more-slots))))
         ∙ those-same (λ s. sort (cellIn cs s)) (λ s. sort (cellIn cs₀ s)) (slots (length cs₀))
         (all-tabulate (λ s. sort (cellIn cs s) ≡ sort (cellIn cs₀ s)) (λ s. s) (length cs₀) sort-stays)
 

@@ -11,17 +11,18 @@ use Rattle.netlist.specs.Netlist.{Netlist, cellIn}
 use Rattle.order.specs.Orders.{topoSort}
 use Rattle.design.specs.Queue.{applied}
 use Rattle.design.specs.Compact.{compact}
-use Rattle.levels.specs.Evaluate.{inputSlots, outputLevels}
 use Rattle.rewrite.specs.Rewriter.{Rewriter, Lookup}
 use Rattle.rewrite.specs.Rewrite.{Run, ran, stuck, run, slotsOf, compacted, rewrite}
-use Rattle.aig_laws.specs.Reads.{Nets}
-use Rattle.rewrite_laws.proofs.Running.{Wired, RunOk}
+use Rattle.levels.specs.Evaluate.{inputSlots, outputLevels}
+use Rattle.order_laws.specs.Members.{All, Wired}
+use Rattle.order_laws.proofs.Queue.{applied-length}
+use Rattle.rewrite_laws.proofs.Running.{RunOk}
 use Rattle.kept.proofs.Sound.{Sound}
 use Rattle.kept.proofs.Compact.{old, compact-each, compact-shorter, compact-sound}
 use Rattle.kept.proofs.Outputs.{compact-inputs, compact-keeps-levels}
 use Rattle.kept.proofs.Bytes.{labelOf, label-kept, Labelled}
 use Rattle.rewrite_sound.proofs.Shaped.{ShapedRun, run-shaped}
-use Rattle.rewrite_sound.proofs.Operands.{Ended, applied-length, rank as rank-of}
+use Rattle.rewrite_sound.proofs.Operands.{Ended, rank as rank-of}
 use Rattle.rewrite_sound.proofs.Ports.{inputs-stay}
 use Rattle.rewrite_sound.proofs.Applied.{appliedNetlist, applied-sound, applied-labelled}
 
@@ -33,7 +34,7 @@ pub record Ran (look : Lookup) (cs₀ : List Cell) : Type 0 where
   pub few : length (last .design .cells) ≤ 1024
 
 -- for every look-up whose run keeps what is known of settled nets
-pub ran-by : (look : Lookup) (cs₀ : List Cell) → ((s : ℕ) → s < length cs₀ → Nets (Wired cs₀) (visit (cellIn cs₀ s))) → RunOk cs₀ (topoSort cs₀) (run look cs₀)
+pub ran-by : (look : Lookup) (cs₀ : List Cell) → ((s : ℕ) → s < length cs₀ → All (Wired cs₀) (visit (cellIn cs₀ s))) → RunOk cs₀ (topoSort cs₀) (run look cs₀)
     → slotsOf (run look cs₀) ≤ 1024 → Ran look cs₀
 ran-by look cs₀ wired ok few = go (run look cs₀) refl ok (run-shaped cs₀ look) few
   where
@@ -68,7 +69,7 @@ module _ (look : Lookup) (d : Netlist) (rank : ℕ → ℕ) (sound : Sound d ran
   pub rewrite-shorter : length (rewrite look d .cells) ≤ length (r .design .cells)
   rewrite-shorter =
       let l : length (compact before .cells) ≤ length (applied (r .design)) = compact-shorter before (rank-of r) before-sound in
-      omega (arith, ap (λ (y : Netlist). length (y .cells)) rewrite-is, applied-length r)
+      omega (arith, ap (λ (y : Netlist). length (y .cells)) rewrite-is, applied-length (r .design))
 
   pub rewrite-labelled : Labelled d → Labelled (rewrite look d)
   rewrite-labelled h =

@@ -1,51 +1,36 @@
 -- What rewriting does to each slot, for any look-up: inputs and outputs stay and are never stamped, other cells of the ticket stay too unless they
 -- are and-inverters, and every added cell is a gate with a stamp. Assumes nothing.
 use mathlib.Core.Path.{_≡_, refl, sym, ap, _∙_, subst}
-use mathlib.Core.Bool.{Bool, true, false, cond, true≢false, false≢true}
+use mathlib.Core.Bool.{true, false, true≢false}
 use mathlib.Core.List.{List, [], _∷_, _++_}
 use mathlib.Core.Logic.{_⊎_, inl, inr}
 use Prim.Native.Nat.{ℕ, suc, _+_, _≤_, _<_}
 use native.Mathlib.Omega.{arith}
 use lib.Dec.{eqb, ltb}
 use lib.ListN.{length, getD, set, length-append, length-set, length-replicate, List·getD-append, getD-replicate}
-use lib.Seq.{getD-set-same, getD-set-other}
+use lib.Seq.{getD-set-same, getD-set-other, getD-append-seam}
 use borrow.Author.Tests.{eqb-true, eqb-false, ltb-true, ltb-false}
 use Rattle.value.specs.declared.Net.{Net}
 use Rattle.cell.specs.declared.Cell.{Cell}
-use Rattle.cell.specs.declared.Cell.the-variants.{Input, Output, Buf, Not, And, Or, Xor, Mux, Aig}
+use Rattle.cell.specs.declared.Cell.the-variants.{Input}
 use Rattle.netlist.specs.Shape.{visit, visitMut, hasEffects, isSplittable}
 use Rattle.netlist.specs.Netlist.{cellIn}
 use Rattle.order.specs.Orders.{topoSort}
 use Rattle.design.specs.declared.Source.{Source}
 use Rattle.design.specs.declared.Source.the-variants.{Opaque, Known}
 use Rattle.design.specs.declared.Found.the-variants.{At}
-use Rattle.design.specs.Queue.{Design, Entry, netIn, unchanged, mapNetNew, replaceNet, replaceCell, eqCell, seek}
-use Rattle.normalize.specs.Outcomes.{_orElse_}
-use Rattle.normalize.specs.Normalize.{normalize}
-use Rattle.aig.specs.Aig.{simpleAigOpt}
+use Rattle.design.specs.Queue.{Design, Entry, netIn, unchanged, mapNetNew, replaceNet, replaceCell, seek}
 use Rattle.rewrite.specs.Rewriter.{Rewriter, Lookup, begun, findCell, entered, finished}
-use Rattle.rewrite.specs.Rewrite.{rules, Result, none, cell, value, spent, Added, at, unadded, processCell, addCell, Run, ran, stuck, bitDone, cellDone, runItem, andThen, runItems, run}
-use Rattle.order_laws.specs.Ordered.{has}
-use Rattle.order_laws.proofs.Walks.{either, never, eqb-self, or-left, or-right}
+use Rattle.rewrite.specs.Rewrite.{Result, none, cell, value, spent, Added, at, unadded, processCell, addCell, Run, bitDone, cellDone, runItem, run}
+use Rattle.order_laws.specs.Members.{All}
 use Rattle.order_laws.proofs.Bits.{topoSort-each}
-use Rattle.aig_laws.specs.Reads.{Nets, GateOf, SourceNets, GoodOutcome}
-use Rattle.aig_laws.proofs.Strings.{has-orElse}
-use Rattle.aig_laws.proofs.Reading.{normalize-reads, simple-reads}
-use Rattle.rewrite_laws.proofs.Kept.{Keeps, KeptResult, KeptAdded, processCell-kept, addCell-kept}
-use Rattle.rewrite_laws.proofs.Steps.{getD-last}
-use Rattle.rewrite_laws.proofs.Running.{visitMut-effects, splittable-gate, equal-effects, effect-none, seek-snoc}
-
-splittable-mapped : (f : Net → Net) (c : Cell) → isSplittable (visitMut f c) ≡ isSplittable c
-unfolding visitMut
-splittable-mapped f (Input l) = refl
-splittable-mapped f (Output a l) = refl
-splittable-mapped f (Buf a) = refl
-splittable-mapped f (Not a) = refl
-splittable-mapped f (And a b) = refl
-splittable-mapped f (Or a b) = refl
-splittable-mapped f (Xor a b) = refl
-splittable-mapped f (Mux a b c) = refl
-splittable-mapped f (Aig p q) = refl
+use Rattle.order_laws.proofs.Truth.{either, never}
+use Rattle.order_laws.proofs.Sorts.{effects-mapped, sort-kept, splits-by}
+use Rattle.order_laws.proofs.Queue.{seek-snoc}
+use Rattle.order_laws.proofs.Members.{all-every, has-first}
+use Rattle.aig_laws.specs.Reads.{GateOf, SourceNets}
+use Rattle.rewrite_laws.proofs.Kept.{Keeps, KeptResult, KeptAdded, processCell-kept, addCell-kept, inverse-reads, rules-read}
+use Rattle.rewrite_laws.proofs.Items.{Along, below-next, gate-done, item-by, items-along, port-done, Below}
 
 -- a gate, whatever its operands
 abbrev Any : Net → Type 0
@@ -54,20 +39,12 @@ Any n = Unit {0}
 abbrev Gate : Cell → Type 0
 Gate c = GateOf Any c
 
-any-nets : (ns : List Net) → Nets Any ns
-unfolding Nets
-any-nets [] = tt
-any-nets (n ∷ ns) = (tt, any-nets ns)
+any-nets : (ns : List Net) → All Any ns
+any-nets = all-every Any (λ n. tt)
 
 any-source : (src : Source) → SourceNets Any src
 any-source Opaque = tt
 any-source (Known c) = any-nets (visit c)
-
-rules-gate : (look : Lookup) (r : Rewriter) (c : Cell) → Gate c → GoodOutcome Gate Any (rules look r c)
-unfolding rules
-rules-gate look r c q =
-    has-orElse (GoodOutcome Gate Any) (normalize c) (simpleAigOpt (findCell look r) c) (normalize-reads Any tt tt tt c q)
-    (simple-reads Any tt tt tt (findCell look r) (λ m h. any-source (findCell look r m)) c q)
 
 -- a cell that is rewritten in its slot: an and-inverter
 abbrev pub InPlace : Cell → Type 0
@@ -102,9 +79,9 @@ module _ (cs₀ : List Cell) where
       → (c : Cell) (m : Net) → seek (es ++ ((x, y) ∷ [])) c ≡ At m → hasEffects c ≡ false
   cached-more es h x y g c m e = go (seek-snoc es (x, y) c m e)
     where
-      go : (seek es c ≡ At m) ⊎ ((eqCell x c ≡ true) × (y ≡ m)) → hasEffects c ≡ false
+      go : (seek es c ≡ At m) ⊎ ((x ≡ c) × (y ≡ m)) → hasEffects c ≡ false
       go (inl f) = h c m f
-      go (inr f) = equal-effects x c (f .0) ∙ g
+      go (inr f) = ap hasEffects (sym (f .0)) ∙ g
 
   -- a gate is entered
   entered-shaped : (r : Rewriter) (c : Cell) (m : Net) → Shaped r → hasEffects c ≡ false → Shaped (entered r c m)
@@ -125,8 +102,8 @@ module _ (cs₀ : List Cell) where
             (λ e. let b : i < length cs = ltb-true i (length cs) e in
             (ap hasEffects (old-cell i b) ∙ h .adds i l b .0, omega (arith, old-stamp i b, h .adds i l b .1)))
             (λ e. let b : i ≡ length cs = omega (arith, k, ltb-false i (length cs) e, length-append cs (c ∷ [])) in (
-              ap (λ (j : ℕ). hasEffects (cellIn (cs ++ (c ∷ [])) j)) b ∙ ap hasEffects (getD-last cs c (Input 0)) ∙ g,
-              omega (arith, ap (λ (j : ℕ). getD (ts ++ (suc (r .clock) ∷ [])) j 0) (b ∙ sym size), getD-last ts (suc (r .clock)) 0),
+              ap (λ (j : ℕ). hasEffects (cellIn (cs ++ (c ∷ [])) j)) b ∙ ap hasEffects (getD-append-seam cs c [] (Input 0)) ∙ g,
+              omega (arith, ap (λ (j : ℕ). getD (ts ++ (suc (r .clock) ∷ [])) j 0) (b ∙ sym size), getD-append-seam ts (suc (r .clock)) [] 0),
             ));
         ports = λ i l e. old-stamp i (omega arith) ∙ h .ports i l e;
         cached = cached-more (r .cache) (h .cached) c m g;
@@ -180,19 +157,20 @@ module _ (cs₀ : List Cell) where
     Given r m = Unit {0}
 
     shaping : Keeps look Shaped Made Given
-    unfolding Nets visit hasEffects
     shaping = record {
-      plan = λ r c p q. rules-gate look r c q;
-      inverse = λ r m p v. ((tt, tt), refl);
+      plan = λ r c p q. rules-read look r Any (tt, tt, tt) (λ m h. any-source (findCell look r m)) c q;
+      inverse = λ r m p v. inverse-reads Any m tt;
       cached = λ r c m p q e. tt;
       step = λ r c p q e s. (entered-shaped r c (netIn (length (r .design .cells))) p (q .1), tt);
     }
 
-    abbrev pub ShapedRun : Run → Type 0
-    ShapedRun (ran r) = Shaped r
-    ShapedRun (stuck r) = Unit {0}
+    abbrev ShapedAfter : List ℕ → Run → Type 0
+    ShapedAfter = Along (λ before r. Shaped r) (λ r. Unit {0})
 
-    module _ (s : ℕ) (small : s < n) (r : Rewriter) (h : Shaped r) where
+    abbrev pub ShapedRun : Run → Type 0
+    ShapedRun = ShapedAfter (topoSort cs₀)
+
+    module _ (s : ℕ) (small : s < n) (r : Rewriter) (h : Shaped r) (done : List ℕ) where
       abbrev f : Net → Net
       f = mapNetNew (r .design .replaced)
 
@@ -203,52 +181,26 @@ module _ (cs₀ : List Cell) where
       c = visitMut f now
 
       first-effects : hasEffects (cellIn cs₀ s) ≡ hasEffects c
-      first-effects = sym (visitMut-effects f now ∙ holds-effects (cellIn cs₀ s) now (h .olds s small))
+      first-effects = sym (effects-mapped f now ∙ holds-effects (cellIn cs₀ s) now (h .olds s small))
 
-      bit-shaped : hasEffects c ≡ false → (y : Added) → KeptAdded look Shaped Made Given shaping y → ShapedRun (bitDone s y)
+      bit-shaped : hasEffects c ≡ false → (y : Added) → KeptAdded look Shaped Made Given shaping y → ShapedAfter done (bitDone s y)
       bit-shaped g (at m r′) k = replaced-shaped r′ (k .0) s small (first-effects ∙ g) m
       bit-shaped g (unadded r′) k = tt
 
-      gate-shaped : isSplittable c ≡ false → hasEffects c ≡ false → (y : Result) → KeptResult look Shaped Made Given shaping c y → ShapedRun (cellDone s c y)
-      gate-shaped p g (none r′) k = go (hasEffects c) g
-        where
-          go : (b : Bool) → b ≡ false → Shaped (cond b r′ (finished r′ s (r′ .design) (r′ .cache ++ ((c, netIn s) ∷ []))))
-          go true e = absurd (true≢false e)
-          go false e = same-shaped r′ (k .kept) s small (first-effects ∙ g) c g
+      gate-shaped : isSplittable c ≡ false → hasEffects c ≡ false → (y : Result) → KeptResult look Shaped Made Given shaping c y → ShapedAfter done (cellDone s c y)
+      gate-shaped p g (none r′) k = gate-done s r′ c (ShapedAfter done) g (same-shaped r′ (k .kept) s small (first-effects ∙ g) c g)
       gate-shaped p g (cell d r′) k =
           rewritten-shaped r′ (k .kept) s small (first-effects ∙ g) d
-          (holds-in-place (cellIn cs₀ s) now (h .olds s small) (sym (splittable-mapped f now) ∙ p, sym (visitMut-effects f now) ∙ g)) (k .good .1)
+          (holds-in-place (cellIn cs₀ s) now (h .olds s small) (sym (sort-kept splits-by f now) ∙ p, sym (effects-mapped f now) ∙ g)) (k .good .1)
       gate-shaped p g (value m r′) k = replaced-shaped r′ (k .0) s small (first-effects ∙ g) m
       gate-shaped p g (spent r′) k = tt
 
-      effect-shaped : hasEffects c ≡ true → ShapedRun (cellDone s c (processCell look r c))
-      effect-shaped e =
-          subst (λ (y : Result). ShapedRun (cellDone s c y)) (sym (effect-none look r c e (λ m q. never e (h .cached c m q)))) (go (hasEffects c) e)
-        where
-          go : (b : Bool) → b ≡ true → Shaped (cond b r (finished r s (r .design) (r .cache ++ ((c, netIn s) ∷ []))))
-          go true q = h
-          go false q = absurd (false≢true q)
-
-      item-shaped : ShapedRun (runItem look s r)
-      unfolding runItem
-      item-shaped = go (isSplittable c) refl (hasEffects c) refl
-        where
-          go : (b : Bool) → isSplittable c ≡ b → (e : Bool) → hasEffects c ≡ e → ShapedRun (cond b (bitDone s (addCell look r c)) (cellDone s c (processCell look r c)))
-          go true b e g =
-              let q : hasEffects c ≡ false = splittable-gate c b in
-              bit-shaped q (addCell look r c) (addCell-kept look Shaped Made Given shaping r c h (any-nets (visit c), q))
-          go false b true g = effect-shaped g
-          go false b false g = gate-shaped b g (processCell look r c) (processCell-kept look Shaped Made Given shaping r c h (any-nets (visit c), g))
-
-    items-shaped : (ss : List ℕ) → ((s : ℕ) → has s ss ≡ true → s < n) → (r : Rewriter) → Shaped r → ShapedRun (runItems look ss r)
-    unfolding runItems has
-    items-shaped [] l r h = h
-    items-shaped (s ∷ ss) l r h =
-        go (runItem look s r) (item-shaped s (l s (or-left (eqb s s) (has s ss) (eqb-self s))) r h) (items-shaped ss (λ x e. l x (or-right (eqb x s) (has x ss) e)))
-      where
-        go : (x : Run) → ShapedRun x → ((r : Rewriter) → Shaped r → ShapedRun (runItems look ss r)) → ShapedRun (andThen (runItems look ss) x)
-        go (ran r′) k ih = ih r′ k
-        go (stuck r′) k ih = tt
+      item-shaped : ShapedAfter done (runItem look s r)
+      item-shaped =
+          item-by look s r (ShapedAfter done)
+          (λ b g. bit-shaped g (addCell look r c) (addCell-kept look Shaped Made Given shaping r c h (any-nets (visit c), g)))
+          (λ e. port-done s r c (ShapedAfter done) look e (λ m q. never e (h .cached c m q)) h)
+          (λ b g. gate-shaped b g (processCell look r c) (processCell-kept look Shaped Made Given shaping r c h (any-nets (visit c), g)))
 
     begun-shaped : Shaped (begun cs₀)
     unfolding unchanged seek
@@ -264,4 +216,6 @@ module _ (cs₀ : List Cell) where
     -- the law
     pub run-shaped : ShapedRun (run look cs₀)
     unfolding run
-    run-shaped = items-shaped (topoSort cs₀) (topoSort-each cs₀ .small) (begun cs₀) begun-shaped
+    run-shaped =
+        items-along (λ before r. Shaped r) (λ r. Unit {0}) look (Below n) (below-next n) (λ before ss s l r h. item-shaped s (l s (has-first s ss)) r h (before ++ (s ∷ [])))
+        (topoSort cs₀) [] (topoSort-each cs₀ .small) (begun cs₀) begun-shaped

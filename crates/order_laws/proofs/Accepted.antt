@@ -1,0 +1,106 @@
+-- Records that pass refusals 4 to 8: their kinds are known, their operands name slots other than outputs, and a rank falls along their edges.
+-- Assumes nothing.
+use mathlib.Core.Path.{_≡_, sym, ap, ap₂, _∙_, subst}
+use mathlib.Core.Bool.{true, false, not, _&&_}
+use mathlib.Core.List.{List, map}
+use mathlib.Core.Logic.{_⊎_, ⊎-elim}
+use Prim.Native.Nat.{ℕ, _<_}
+use native.Mathlib.Omega.{arith}
+use lib.Dec.{eqb, ltb}
+use lib.ListN.{length, length-map}
+use borrow.Author.Tests.{ltb-true, not-false}
+use Rattle.value.specs.declared.Slot.{Slot}
+use Rattle.value.specs.declared.Driver.the-variants as driven
+use Rattle.cell.specs.declared.Record.{Record}
+use Rattle.cell.specs.declared.Edge.the-variants.{To}
+use Rattle.cell.specs.declared.Cell.the-variants.{Input}
+use Rattle.cell.specs.Kinds.{kindOf, edgeAt}
+use Rattle.cell.specs.Records.{recordOf, recordIn, cellOf}
+use Rattle.loops.specs.Reach.{OnLoop, onLoop}
+use Rattle.loops.proofs.Edges.{edge-field}
+use Rattle.loops.proofs.Rank.{rank, rank-falls, no-loop-below}
+use Rattle.checking.specs.declared.Verdict.the-variants.{Pass}
+use Rattle.checking.specs.Refusals.{firstOf, slotBySlot}
+use Rattle.checking.specs.Checking.{unknownKind, reservedField, bitOutOfSequence, undriven, undrivenField, undrivenOperand, recordStages, loopStages, netlistStages}
+use Rattle.checking.proofs.Stages.{passed-exactly, passes-both, slots-passed}
+use Rattle.netlist.specs.Shape.{visit, isOutput}
+use Rattle.netlist.specs.Netlist.{cellIn}
+use Rattle.order.proofs.Bits.{output-kind}
+use Rattle.order_laws.specs.Members.{All, Drives, Wired}
+use Rattle.order_laws.proofs.Truth.{neither}
+use Rattle.order_laws.proofs.Lists.{getD-mapped}
+use Rattle.order_laws.proofs.Edges.{edge-to, edge-from, operands-by}
+
+module _ (rs : List Record) where
+  -- 7: an edge leads to a record, and to no output
+  abbrev pub Tight : ℕ → Type 0
+  Tight x = (x < length rs) × (eqb (recordIn rs x .kind) 2 ≡ false)
+
+  slot-tight : (x : Slot) → undriven rs (driven.Cell x) ≡ false → Tight (x .0)
+  slot-tight x e =
+      let g = neither (not (ltb (x .0) (length rs))) _ e in
+      (ltb-true (x .0) (length rs) (not-false (ltb (x .0) (length rs)) (g .0)), g .1)
+
+  edge-tight : (r : Record) (f : ℕ) (x : Slot) → undrivenOperand rs r ≡ false → edgeAt r f ≡ To x → Tight (x .0)
+  unfolding undrivenOperand undrivenField
+  edge-tight r f x e q =
+      let d = edge-from r f x q in
+      let g₁ = neither (undrivenField rs r 1) _ e in
+      let g₂ = neither (undrivenField rs r 2) _ (g₁ .1) in
+      let at : (k : ℕ) → undrivenField rs r k ≡ false → f ≡ k → Tight (x .0) =
+      λ k h z. slot-tight x (sym (ap₂ (λ b y. b && undriven rs y) (d .0) (d .1)) ∙ subst (λ (j : ℕ). undrivenField rs r j ≡ false) (sym z) h) in
+      ⊎-elim (at 1 (g₁ .0)) (⊎-elim (at 2 (g₂ .0)) (at 3 (g₂ .1))) (edge-field r f x q)
+
+  module _ (pass : firstOf (netlistStages rs) ≡ Pass) where
+    pub record Passed (s : ℕ) : Type 0 where
+      pub kind : unknownKind (recordIn rs s) ≡ false
+      pub fields : reservedField (recordIn rs s) ≡ false
+      pub bits : bitOutOfSequence rs s ≡ false
+      pub operands : undrivenOperand rs (recordIn rs s) ≡ false
+      pub loops : onLoop rs s ≡ false
+
+    both : (firstOf (slotBySlot (recordStages rs) (length rs)) ≡ Pass) × (firstOf (slotBySlot (loopStages rs) (length rs)) ≡ Pass)
+    unfolding netlistStages
+    both = passes-both (slotBySlot (recordStages rs) (length rs)) (slotBySlot (loopStages rs) (length rs)) pass
+
+    pub passed : (s : ℕ) → s < length rs → Passed s
+    unfolding recordStages loopStages
+    passed s l =
+        let r = passed-exactly (recordStages rs s) .0 (slots-passed (recordStages rs) (length rs) s (both .0) l) in
+        record {
+          kind = r 0 (omega arith);
+          fields = r 1 (omega arith);
+          bits = r 2 (omega arith);
+          operands = r 3 (omega arith);
+          loops = passed-exactly (loopStages rs s) .0 (slots-passed (loopStages rs) (length rs) s (both .1) l) 0 (omega arith);
+        }
+
+    pub passed-known : (s : ℕ) → s < length rs → kindOf (recordIn rs s .kind) .known ≡ true
+    unfolding unknownKind
+    passed-known s l = not-false (kindOf (recordIn rs s .kind) .known) (passed s l .kind)
+
+    no-loop : (s : ℕ) → OnLoop rs s → ⊥
+    no-loop = no-loop-below rs (λ i l. passed i l .loops)
+
+    -- the slots of each operand, by the edges
+    pub passed-operands : (Q : ℕ → Type 0) (s : ℕ) → s < length rs → ((f : ℕ) (x : Slot) → edgeAt (recordIn rs s) f ≡ To x → Tight (x .0) → Q (x .0))
+        → All (Drives Q) (visit (cellIn (map cellOf rs) s))
+    passed-operands Q s l h =
+        let r : Record = recordIn rs s in
+        rw (getD-mapped cellOf rs s (recordOf 0 0 0 0 0 0) (Input 0) l)
+        (operands-by (Drives Q) r (passed-known s l)
+        (λ f e x d. let q : edgeAt r f ≡ To x = edge-to r f x e d in h f x q (edge-tight r f x (passed s l .operands) q)))
+
+    pub passed-ranked : (s : ℕ) → s < length rs
+        → All (Drives (λ x. (x < length (map cellOf rs)) × (rank rs x < rank rs s))) (visit (cellIn (map cellOf rs) s))
+    passed-ranked s l =
+        passed-operands (λ x. (x < length (map cellOf rs)) × (rank rs x < rank rs s)) s l
+        (λ f x q t. (omega (arith, t .0, length-map rs cellOf), rank-falls rs no-loop s f x q))
+
+    pub passed-wired : (s : ℕ) → s < length rs → All (Wired (map cellOf rs)) (visit (cellIn (map cellOf rs) s))
+    passed-wired s l =
+        passed-operands (λ x. (x < length (map cellOf rs)) × (isOutput (cellIn (map cellOf rs) x) ≡ false)) s l
+        (λ f x q t. (
+          omega (arith, t .0, length-map rs cellOf),
+          ap isOutput (getD-mapped cellOf rs (x .0) (recordOf 0 0 0 0 0 0) (Input 0) (t .0)) ∙ output-kind (recordIn rs (x .0)) ∙ t .1,
+        ))
