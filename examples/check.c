@@ -14,5 +14,5 @@ int main(void)
         printf("accepted %u %u\n", answer[1], answer[2]);
     else
         printf("refused %u %u\n", number, answer[0]);
-    return 0;
+    return number != 0;
 }

@@ -1,5 +1,5 @@
 -- Rewriting as crate `rewrite` defines it (`rewrite/specs/Rewrite.antt`), with the step that adds a cell left open: `adds` stands where `entry`
--- stands there, and nothing else differs (`rewrite-plain`). Assumes nothing: these are definitions.
+-- stands there. With `entry` put in it is `rewrite` (`rewrite-plain`). Assumes nothing: these are definitions.
 use mathlib.Core.Bool.{cond}
 use mathlib.Core.List.{List, [], _∷_}
 use Prim.Native.Nat.{ℕ, zero, suc}

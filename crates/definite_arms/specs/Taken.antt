@@ -78,7 +78,8 @@ normalizeName (Output m l) = arm.kept
 normalizeName (Not m) = arm.kept
 normalizeName (Mux l m n) = arm.kept
 
--- the tests of the arm hold for the cell, in one order of its operands, and the outcome is what the arm returns. The Rust takes the first such arm
+-- the tests of the arm hold for the cell, in one order of its operands, and the outcome is what the arm returns; an arm that ends a rule with
+-- nothing has no test. That earlier arms fail is not said: the Rust takes the first. docs/ORACLE.md has a ticket for each of the thirteen
 pub data Taken (look : Net → Source) : Cell → Outcome → Name → Type 0 where
   inverter : {n : Net} {o : Outcome} (k : NotArm (look n) n o) → Taken look (Not n) o (notName k)
   and-inverter : {p q : ControlNet} {o : Outcome} (k : AigArm (look (net p)) (look (net q)) p q o) → Taken look (Aig p q) o (aigName k)

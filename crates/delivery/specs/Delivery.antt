@@ -27,7 +27,7 @@ Writes stages bytes ws ws′ reply reply′ r = Decides (λ v. writtenBy v (leng
 abbrev pub Delivers : List ℕ → List ℕ → List ℕ → List ℕ → List ℕ → Written → Type 0
 Delivers bytes ws ws′ reply reply′ r = Writes (room reply bytes ∷ []) bytes ws ws′ reply reply′ r
 
--- a ticket that passed 2 to 8, and a work slice that is long enough
+-- a ticket that passed 3 to 8 (of 2 nothing is asked), and a work slice that is long enough
 pub record Passed (t ws : List ℕ) : Type 0 where
   pub long : workWords ≤ length ws
   pub few : length t / 16 ≤ maxRecords

@@ -206,15 +206,17 @@ forbidden =
     ∷ alone (input 1) (input 2)  -- another label
     ∷ alone (output 0 1) (output 0 2)
     ∷ alone (output 0 1) (output 1 1)  -- another constant
+    ∷ record { here = input 1 ∷ output 0 2 ∷ []; there = input 1 ∷ output 2 2 ∷ [] }  -- a constant with a slot
     ∷ alone (recordOf 8 0 0 4294967295 0 1) (recordOf 8 0 0 4294967295 1 0)  -- operands exchanged of a mux
     ∷ alone (recordOf 8 0 0 0 1 1) (recordOf 8 0 0 1 0 1)
     ∷ alone (recordOf 6 0 0 0 1 0) (recordOf 6 0 0 1 0 0)  -- of an or, and of an and
     ∷ alone (recordOf 5 0 0 0 1 0) (recordOf 5 0 0 1 0 0)
     ∷ alone (recordOf 9 1 0 0 1 0) (recordOf 9 1 0 1 0 0)  -- of an and-inverter, its flags left behind
     ∷ alone (recordOf 9 1 0 0 1 0) (recordOf 9 2 0 0 1 0)  -- its flags exchanged alone
+    ∷ alone (recordOf 9 0 0 0 1 0) (recordOf 9 1 0 0 1 0)  -- another flag
     ∷ record { here = recordOf 4 0 0 0 0 0 ∷ recordOf 4 0 0 0 0 0 ∷ []; there = recordOf 4 0 0 0 0 0 ∷ recordOf 4 0 0 1 0 0 ∷ [] }  -- two slots with one
     ∷ record { here = input 1 ∷ output 2 2 ∷ []; there = input 1 ∷ output 2 2 ∷ recordOf 4 0 0 2 0 0 ∷ [] }  -- one record more
-    ∷ alone (recordOf 0 0 0 0 0 0) (recordOf 3 0 0 0 0 0)  -- a blank record with none at all
+    ∷ alone (recordOf 0 0 0 0 0 0) (recordOf 3 0 0 0 0 0)  -- a record with a place behind the last, which reads as a blank one
     ∷ record { here = input 1 ∷ input 1 ∷ output 2 2 ∷ []; there = input 1 ∷ input 1 ∷ output 3 2 ∷ [] }  -- the first input with the second
     ∷ record { here = output 0 1 ∷ output 1 1 ∷ []; there = output 1 1 ∷ output 0 1 ∷ [] }  -- the first output with the second
     ∷ record { here = input 1 ∷ input 2 ∷ output 2 3 ∷ []; there = input 1 ∷ input 2 ∷ output 3 3 ∷ [] }  -- an operand with a slot that is not paired with its own
