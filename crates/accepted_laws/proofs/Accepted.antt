@@ -1,7 +1,7 @@
 -- The bits of records that pass refusals 4 to 8 are ordered, and rewriting them never runs out of steps. Assumes nothing.
 use mathlib.Core.Path.{_≡_, refl}
 use mathlib.Core.Bool.{true}
-use mathlib.Core.List.{List, [], map}
+use mathlib.Core.List.{List, [], _++_, map}
 use Prim.Native.Nat.{ℕ, _≤_, _<_}
 use native.Mathlib.Omega.{arith}
 use lib.ListN.{length, length-map}
@@ -16,14 +16,14 @@ use Rattle.netlist.specs.Shape.{visit}
 use Rattle.netlist.specs.Netlist.{cellIn}
 use Rattle.order.specs.Orders.{bitDeps, topoSort}
 use Rattle.design.specs.Queue.{findNewCell}
-use Rattle.rewrite.specs.Rewriter.{Rewriter}
-use Rattle.rewrite.specs.Rewrite.{Run, ran, stuck, run, slotsOf}
+use Rattle.rewrite.specs.Rewriter.{Rewriter, begun}
+use Rattle.rewrite.specs.Rewrite.{Run, ran, stuck, runItems, run, slotsOf}
 use Rattle.order_laws.specs.Ordered.{has, FedAfter, Each}
 use Rattle.order_laws.specs.Members.{All, Drives, Wired}
 use Rattle.order_laws.proofs.Bits.{topoSort-each, deps-have, topoSort-fed}
 use Rattle.order_laws.proofs.Accepted.{passed-ranked, passed-wired}
 use Rattle.order_laws.proofs.Members.{all-imp}
-use Rattle.rewrite_laws.proofs.Running.{RunOk, run-ok}
+use Rattle.rewrite_laws.proofs.Running.{RunOk, part-ok, run-ok}
 
 module _ (rs : List Record) (accepted : firstOf (netlistStages rs) ≡ Pass) where
   abbrev cs : List Cell
@@ -50,6 +50,9 @@ module _ (rs : List Record) (accepted : firstOf (netlistStages rs) ≡ Pass) whe
   -- rewriting accepted records: as long as every slot has a net of its own, the run is not stuck, and what is known of settled nets holds
   pub accepted-run : RunOk cs (topoSort cs) (run findNewCell cs)
   accepted-run = run-ok cs accepted-wired (rank rs) falls
+
+  pub accepted-part : (before rest : List ℕ) → topoSort cs ≡ before ++ rest → RunOk cs before (runItems findNewCell before (begun cs))
+  accepted-part = part-ok cs accepted-wired (rank rs) falls
 
   pub accepted-ran : slotsOf (run findNewCell cs) ≤ 1024 → (r : Rewriter) × (run findNewCell cs ≡ ran r)
   accepted-ran few = go (run findNewCell cs) refl accepted-run few

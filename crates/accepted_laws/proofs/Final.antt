@@ -3,7 +3,7 @@ use mathlib.Core.Path.{_≡_, refl, sym, ap, _∙_}
 use mathlib.Core.Bool.{Bool, true, false, cond}
 use mathlib.Core.List.{List}
 use mathlib.Core.Logic.{_⊎_, inl, inr}
-use Prim.Native.Nat.{ℕ, zero, suc, _-_, _≤_, _<_}
+use Prim.Native.Nat.{ℕ, zero, suc, _≤_, _<_}
 use native.Mathlib.Omega.{arith}
 use lib.Dec.{ltb}
 use lib.ListN.{length, getD, List·getD-eq-default}
@@ -19,6 +19,7 @@ use Rattle.loops.specs.Counted.{counted}
 use Rattle.loops.proofs.Counting.{counted-le, counted-less}
 use Rattle.design.specs.Queue.{drivenTo, followed, mapNetNew}
 use Rattle.rewrite.specs.Rewriter.{Rewriter, stamp}
+use Rattle.order_laws.specs.Ends.{Final, Ends}
 use Rattle.order_laws.proofs.Truth.{either, never}
 use Rattle.order_laws.proofs.Queue.{replacement}
 use Rattle.rewrite_laws.proofs.Settled.{StandsFor, Inv, stamp-driven}
@@ -30,10 +31,6 @@ module _ (cs₀ : List Cell) (r : Rewriter) (inv : Inv cs₀ r) where
   abbrev rs : List Net
   rs = r .design .replaced
 
-  -- no replacement leads on
-  abbrev pub Final : Net → Type 0
-  Final m = replacement rs m ≡ m
-
   -- how many slots are stamped no higher than a net
   abbrev below : ℕ → ℕ
   below t = counted (λ i. ltb (getD ts i 0) (suc t)) (length cs₀)
@@ -44,7 +41,7 @@ module _ (cs₀ : List Cell) (r : Rewriter) (inv : Inv cs₀ r) where
       (λ j m e. lt-ltb (getD ts j 0) (suc u) (omega (arith, h, k, ltb-true (getD ts j 0) (suc t) e))) i l
       (le-ltb (getD ts i 0) (suc t) (omega arith)) (lt-ltb (getD ts i 0) (suc u) (omega arith))
 
-  one : (m : Net) → Final m ⊎ (below (stamp ts (replacement rs m)) < below (stamp ts m))
+  one : (m : Net) → Final rs m ⊎ (below (stamp ts (replacement rs m)) < below (stamp ts m))
   one m = go (driver m) refl
     where
       slot : (s : Slot) → driver m ≡ driven.Cell s → s .0 < length cs₀ → StandsFor cs₀ ts (s .0) (getD rs (s .0) m)
@@ -60,22 +57,22 @@ module _ (cs₀ : List Cell) (r : Rewriter) (inv : Inv cs₀ r) where
           (λ l. slot s e (ltb-true (s .0) (length cs₀) l) (inv .stands (s .0) m (ltb-true (s .0) (length cs₀) l)))
           (λ l. inl (List·getD-eq-default rs m {n = s .0} (omega (arith, inv .wide, ltb-false (s .0) (length cs₀) l)))))
 
-  follow-final : (k : ℕ) (m : Net) → below (stamp ts m) ≤ k → Final (followed k rs m)
+  follow-final : (k : ℕ) (m : Net) → below (stamp ts m) ≤ k → Final rs (followed k rs m)
   unfolding followed
   follow-final zero m h = go (one m)
     where
-      go : Final m ⊎ (below (stamp ts (replacement rs m)) < below (stamp ts m)) → Final m
+      go : Final rs m ⊎ (below (stamp ts (replacement rs m)) < below (stamp ts m)) → Final rs m
       go (inl f) = f
       go (inr l) = absurd (omega (arith, l, h))
   follow-final (suc k) m h = go (eqNet (replacement rs m) m) refl (one m) (follow-final k (replacement rs m))
     where
-      go : (b : Bool) → eqNet (replacement rs m) m ≡ b → Final m ⊎ (below (stamp ts (replacement rs m)) < below (stamp ts m))
-          → (below (stamp ts (replacement rs m)) ≤ k → Final (followed k rs (replacement rs m))) → Final (cond b m (followed k rs (replacement rs m)))
+      go : (b : Bool) → eqNet (replacement rs m) m ≡ b → Final rs m ⊎ (below (stamp ts (replacement rs m)) < below (stamp ts m))
+          → (below (stamp ts (replacement rs m)) ≤ k → Final rs (followed k rs (replacement rs m))) → Final rs (cond b m (followed k rs (replacement rs m)))
       go true e f ih = net-test .same (replacement rs m) m e
       go false e (inl f) ih = never (net-test .is-true (replacement rs m) m f) e
       go false e (inr l) ih = ih (omega (arith, l, h))
 
   -- the law
-  pub mapNetNew-final : (m : Net) → Final (mapNetNew rs m)
+  pub mapNetNew-final : (m : Net) → Ends rs m
   unfolding mapNetNew
   mapNetNew-final m = follow-final (length rs) m (omega (arith, inv .wide, counted-le (λ i. ltb (getD ts i 0) (suc (stamp ts m))) (length cs₀)))

@@ -1,13 +1,12 @@
 -- Replaced nets, followed and put in place. Assumes nothing.
-use mathlib.Core.Path.{_≡_, refl, sym, ap, ap₂, _∙_, subst}
-use mathlib.Core.Bool.{Bool, true, false, cond, not, _&&_, _||_}
-use mathlib.Core.List.{List, [], _∷_, _++_, map}
-use Prim.Native.Nat.{ℕ, zero, suc, _+_, _-_, _*_, _<_, _≤_}
+use mathlib.Core.Path.{_≡_, refl, sym, ap, _∙_, subst}
+use mathlib.Core.Bool.{Bool, true, false, cond, not, _&&_}
+use mathlib.Core.List.{List}
+use Prim.Native.Nat.{ℕ, suc, _+_, _-_, _<_, _≤_}
 use native.Mathlib.Omega.{arith}
-use native.Mathlib.Numerals.{add-one}
 use native.Mathlib.Decide.{decLt}
 use lib.Dec.{eqb}
-use lib.ListN.{length, getD, set, length-set}
+use lib.ListN.{length, getD, set}
 use lib.Seq.{getD-set-same, getD-set-other}
 use borrow.Author.Tests.{eq-eqb}
 use Rattle.logic.specs.declared.Trit.{Trit}
@@ -17,7 +16,6 @@ use Rattle.value.specs.declared.Driver.{Driver}
 use Rattle.value.specs.declared.Driver.the-variants as driven
 use Rattle.value.specs.declared.ControlNet.the-variants.{Pos, Neg}
 use Rattle.value.specs.Value.{netAt, eqNet, driver}
-use Rattle.cell.specs.declared.Record.{Record}
 use Rattle.cell.specs.declared.Cell.{Cell}
 use Rattle.cell.specs.declared.Cell.the-variants.{Input, Output, Buf, Not, And, Or, Xor, Mux, Aig}
 use Rattle.cell.specs.Tabulate.{tabulate}
@@ -80,10 +78,11 @@ pub unchanging-none : (n : ℕ) (ws : List ℕ) → n ≤ 1024 → 16384 ≤ len
 unchanging-none n ws few long = record { upto = omega arith; few = few; long = long; each = λ u l. absurd (omega arith); frame = within-none 6144 7168 ws }
 
 module _ (n : ℕ) (ws₀ ws : List ℕ) (s : ℕ) (g : Unchanging n ws₀ ws s) where
-  pub unchanging-more : (ws′ : List ℕ) → s < n → ws′ ≡ set ws (6144 + s) (s + 2) → Unchanging n ws₀ ws′ (s + 1)
-  unchanging-more ws′ l e =
+  pub unchanging-more : (ws′ : List ℕ) (x : Net) → s < n → x ≡ netIn s → ws′ ≡ set ws (6144 + s) (x .0) → Unchanging n ws₀ ws′ (s + 1)
+  unchanging-more ws′ x l x-is e =
       let few : n ≤ 1024 = g .few in
-      subst (λ (vs : List ℕ). Unchanging n ws₀ vs (s + 1)) (sym e) (record {
+      let f : ws′ ≡ set ws (6144 + s) (s + 2) = e ∙ ap (λ (y : Net). set ws (6144 + s) (y .0)) x-is in
+      subst (λ (vs : List ℕ). Unchanging n ws₀ vs (s + 1)) (sym f) (record {
         upto = omega arith;
         few = g .few;
         long = g .long;

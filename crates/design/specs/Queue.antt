@@ -33,7 +33,9 @@ netIn s = netOf (slotAt s)
 unfoldable pub unchanged : List Cell → Design
 unchanged cs = record { cells = cs; replaced = tabulate netIn (length cs) }
 
--- `Design::map_net_new`: replacements are followed to the end. The first argument bounds the steps, and the number of slots is enough
+-- `Design::map_net_new`: replacements are followed to the end. The first argument bounds the steps, and the number of slots is enough wherever
+-- an accepted ticket is merged or rewritten: `merging-ends` (crate kept), `rewriting-ends` and `look-ups-end` (crate accepted_laws). There any
+-- more steps change nothing (crate order_laws, `more-steps`)
 abbrev pub drivenTo : List Net → Net → Driver → Net
 drivenTo rs n (driven.Const t) = n
 drivenTo rs n (driven.Cell s) = getD rs (s .0) n

@@ -24,7 +24,7 @@ pub fn unchanged(work: &mut [u32], n: u32)
 {
     let mut s: u32 = 0;
     while s < n {
-        cell::put(work, 6144 + (s as usize), s + 2);
+        cell::put(work, 6144 + (s as usize), Net::from_cell_index(Slot(s)).0);
         s += 1;
     }
 }

@@ -7,7 +7,7 @@ use Prim.Native.Nat.{ℕ, _+_, _*_, _≤_, _<_}
 use native.Mathlib.Omega.{arith}
 use lib.Dec.{eqb, ltb}
 use lib.ListN.{length, getD, take, drop}
-use lib.Seq.{take-append-seam}
+use lib.Seq.{take-append-seam, drop-append-seam}
 use Rattle.logic.specs.Levels.{byteOf}
 use Rattle.value.specs.declared.Net.{Net}
 use Rattle.cell.specs.declared.Record.{Record}
@@ -137,6 +137,12 @@ pub written-first : (v : Verdict) (reply bytes : List ℕ) (n : ℕ) → v ≡ P
 unfolding put
 written-first v reply bytes n e q =
     ap₂ (λ (k : ℕ) (w : Verdict). take k (replyAfter w reply bytes)) q e ∙ take-append-seam bytes (drop (length bytes) reply)
+
+pub written-later : (v : Verdict) (reply bytes : List ℕ) (n : ℕ) → v ≡ Pass → n ≡ length bytes → drop n (replyAfter v reply bytes) ≡ drop n reply
+unfolding put
+written-later v reply bytes n e q =
+    ap₂ (λ (k : ℕ) (w : Verdict). drop k (replyAfter w reply bytes)) q e ∙ drop-append-seam bytes (drop (length bytes) reply)
+    ∙ ap (λ (k : ℕ). drop k reply) (sym q)
 
 pub written-count : (v : Verdict) (k n : ℕ) → writtenBy v k ≡ written.Accepted n → (v ≡ Pass) × (n ≡ k)
 written-count Pass k n e = (refl, cc)

@@ -1,6 +1,7 @@
 pub mod Chosen
 pub mod Records
 pub mod Sound
+pub mod Order
 pub mod Keep
 pub mod Compact
 pub mod Stimulus
@@ -11,4 +12,6 @@ pub mod Accepted
 pub mod Passing
 pub mod Bytes
 pub mod Tickets
+pub mod Ends
 pub mod Calls
+pub mod Forbidden

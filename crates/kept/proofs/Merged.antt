@@ -17,7 +17,7 @@ use Rattle.checking.specs.Checking.{outOfSequence}
 use Rattle.netlist.specs.Shape.{visit, visitMut, isInput, isOutput}
 use Rattle.netlist.specs.Netlist.{Netlist, cellIn, slots, those}
 use Rattle.design.specs.Queue.{mapNetNew, applied}
-use Rattle.merge.specs.Merge.{merging, merge}
+use Rattle.merge.specs.Merge.{merging, mergedNetlist, merge}
 use Rattle.levels.specs.Evaluate.{levels, givenLevels, inputSlots, outputSlots, outputLevels}
 use Rattle.order_laws.specs.Members.{All}
 use Rattle.order_laws.proofs.Members.{all-imp, all-both, all-tabulate, all-those, those-same}
@@ -55,7 +55,7 @@ module _ (d : Netlist) (rank : ℕ → ℕ) (sound : Sound d rank) where
 
   -- the netlist before it is compacted
   abbrev pub rewired : Netlist
-  rewired = record { cells = applied (merging d); bits = d .bits }
+  rewired = mergedNetlist d (merging d)
 
   sized : Fits size (λ s. 0) (d .cells) sizes
   sized = sizes-fit (d .cells) rank (sound .ranked)

@@ -6,7 +6,7 @@ use Prim.Native.Nat.{ℕ, zero, suc, _+_, _-_, _≤_, _<_}
 use native.Mathlib.Omega.{arith}
 use native.Mathlib.Decide.{decLt}
 use lib.Dec.{eqb}
-use lib.ListN.{length, getD, drop}
+use lib.ListN.{length, getD, drop, List·getD-eq-default}
 use lib.Seq.{getD-drop}
 use borrow.Author.Tests.{eqb-true, eqb-false, eq-eqb, ne-eqb}
 use Rattle.value.specs.declared.Net.{Net}
@@ -49,7 +49,7 @@ run-long (suc b) (x ∷ l) h = go (eqb x 0) refl (run-long b l (λ j k. h (suc j
     go true e r = absurd (h 0 (omega arith) (eqb-true x 0 e))
     go false e r = omega arith
 
-pub run-above : (j : ℕ) (l : List ℕ) → j < run l → getD l j 0 ≡ 0 → ⊥
+run-above : (j : ℕ) (l : List ℕ) → j < run l → getD l j 0 ≡ 0 → ⊥
 unfolding run
 run-above j [] h e = absurd (omega arith)
 run-above zero (x ∷ l) h e = absurd (omega (arith, rw (eq-eqb x 0 e) at h))
@@ -178,3 +178,25 @@ module _ (d : Netlist) (rank : ℕ → ℕ) (sound : Sound d rank) where
   sound-wired s l =
       all-imp (λ n. Before (d .cells) rank s n × NoOutput (d .cells) n) (Wired (d .cells)) (λ n o x e. (o .0 x e .0, o .1 x e)) (visit (cellIn (d .cells) s))
       (sound-operands s l)
+
+-- the bits of the cell that starts at a slot are numbered from there, and each has its start there
+module _ (d : Netlist) (rank : ℕ → ℕ) (sound : Sound d rank) (s : ℕ) (first : getD (d .bits) s 0 ≡ 0) where
+  bit-number : (j : ℕ) → j ≤ run (drop (s + 1) (d .bits)) → getD (d .bits) (s + j) 0 ≡ j
+  bit-number zero h = ap (λ (i : ℕ). getD (d .bits) i 0) (omega arith) ∙ first
+  bit-number (suc j) h =
+      let before : getD (d .bits) (s + j) 0 ≡ j = bit-number j (omega arith) in
+      let above : getD (d .bits) (s + suc j) 0 ≡ 0 → ⊥ =
+      λ z. run-above j (drop (s + 1) (d .bits)) (omega arith) (getD-drop (s + 1) (d .bits) j 0 ∙ ap (λ (i : ℕ). getD (d .bits) i 0) (omega arith) ∙ z) in
+      go before above (decLt (s + suc j) (length (d .cells)))
+    where
+      go : getD (d .bits) (s + j) 0 ≡ j → (getD (d .bits) (s + suc j) 0 ≡ 0 → ⊥) → Dec (s + suc j < length (d .cells)) → getD (d .bits) (s + suc j) 0 ≡ suc j
+      go before above (no l) = absurd (above (List·getD-eq-default (d .bits) 0 (let w : length (d .bits) ≡ length (d .cells) = sound .wide in omega arith)))
+      go before above (yes l) =
+          sym (inner d rank sound (s + suc j) l above .bit)
+          ∙ ap (λ (i : ℕ). getD (d .bits) i 0 + 1) (let q : s + suc j - 1 ≡ s + j = omega arith in q) ∙ omega arith
+
+  pub bits-start : All (λ i. startOf (d .bits) i ≡ s) (outputOf (d .bits) s)
+  unfolding outputOf
+  bits-start =
+      all-tabulate (λ i. startOf (d .bits) i ≡ s) (λ i. s + i) (suc (run (drop (s + 1) (d .bits))))
+      (λ j h. let e : getD (d .bits) (s + j) 0 ≡ j = bit-number j (omega arith) in omega arith)

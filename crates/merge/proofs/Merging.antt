@@ -18,7 +18,6 @@ use Rattle.netlist.specs.Netlist.{Netlist, netlistOf, cellIn, those}
 use Rattle.netlist.proofs.Frames.{within-none, within-then, within-wider, words-kept, records-kept}
 use Rattle.order.specs.Orders.{iterCellsTopo}
 use Rattle.design.specs.Queue.{netIn, unchanged, didChange}
-use Rattle.design.specs.Compact.{compact}
 use Rattle.design.specs.Words.{netlistIn, replacedIn, designIn, appliedIn}
 use Rattle.design.proofs.Words.{cells-length, bits-length, cell-at}
 use Rattle.order.proofs.Bits.{those-append}
@@ -216,7 +215,7 @@ pub merged : (n : ℕ) (ws ws₁ ws₂ : List ℕ) (r : Bool) → MergesAll n ws
     → Within 0 4096 ws₁ ws₂ → MergesNetlist n ws ws₂ r
 unfolding merge appliedIn
 merged n ws ws₁ ws₂ r m e f w = record {
-  result = ap compact (e ∙ rw (m .said, m .records));
+  result = e ∙ rw (m .said, m .records);
   flag = f ∙ ap didChange (m .said);
   frame = within-then 0 15360 ws ws₁ ws₂ (within-wider 4096 15360 0 15360 ws ws₁ (omega arith) (omega arith) (m .frame))
       (within-wider 0 4096 0 15360 ws₁ ws₂ (omega arith) (omega arith) w);

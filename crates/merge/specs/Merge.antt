@@ -60,8 +60,12 @@ merging d =
     let cells = those (λ s. not (hasEffects (cellIn (d .cells) s))) (iterCellsTopo d) in
     mergeCells d (record { design = unchanged (d .cells); numberer = [] }) cells .design
 
+-- what is left to `compact`: the netlist with the replaced nets put in, which `compact` begins with (`apply`)
+abbrev pub mergedNetlist : Netlist → Design → Netlist
+mergedNetlist d m = record { cells = applied m; bits = d .bits }
+
 -- `merge`: the netlist, and the flag
 unfoldable pub merge : Netlist → Netlist × Bool
 merge d =
     let m = merging d in
-    (compact (record { cells = applied m; bits = d .bits }), didChange m)
+    (compact (mergedNetlist d m), didChange m)

@@ -15,10 +15,9 @@ use Rattle.netlist.specs.Areas.{wordRecord, recordsIn, wordsIn, orderAt, Within
 use Rattle.netlist.specs.Shape.{visitMut, hasEffects}
 use Rattle.netlist.specs.Netlist.{Netlist, cellIn, those, run}
 use Rattle.design.specs.Queue.{mapNetNew, seek}
-use Rattle.design.specs.Compact.{compact}
 use Rattle.design.specs.Words.{netlistIn, replacedIn, designIn}
 use Rattle.numberer.specs.Words.{numbererIn, Entered, Mixed}
-use Rattle.merge.specs.Merge.{Merging, keyOf, numbered, findOrInsert, mergeCell, mergeCells, merging, merge}
+use Rattle.merge.specs.Merge.{Merging, keyOf, numbered, findOrInsert, mergeCell, mergeCells, merging, mergedNetlist, merge}
 
 -- the bits of a cell are numbered from 0, slot after slot
 pub record Sequenced (bits : List ℕ) : Type 0 where
@@ -128,6 +127,6 @@ pub record MergesAll (n : ℕ) (ws ws′ : List ℕ) : Type 0 where
 
 -- the replacements were applied: what is left to do is `compact`
 pub record MergesNetlist (n : ℕ) (ws ws′ : List ℕ) (r : Bool) : Type 0 where
-  pub result : compact (netlistIn n ws′) ≡ merge (netlistIn n ws) .0
+  pub result : netlistIn n ws′ ≡ mergedNetlist (netlistIn n ws) (merging (netlistIn n ws))
   pub flag : r ≡ merge (netlistIn n ws) .1
   pub frame : Within 0 15360 ws ws′

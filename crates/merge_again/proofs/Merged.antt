@@ -2,7 +2,7 @@
 use mathlib.Core.Path.{_≡_, refl, sym, ap, ap₂, _∙_, subst}
 use mathlib.Core.Bool.{Bool, true, false, cond, not}
 use mathlib.Core.List.{map-id, List, [], _∷_, _++_, map}
-use Prim.Native.Nat.{ℕ, _+_, _-_, _<_}
+use Prim.Native.Nat.{ℕ, _+_, _<_}
 use native.Mathlib.Omega.{arith}
 use native.Mathlib.Decide.{decLt}
 use lib.ListN.{length, getD, List·getD-eq-default}
@@ -28,10 +28,10 @@ use Rattle.order_laws.proofs.Members.{has-snoc-same, all-imp, all-every, all-ap
 use Rattle.order_laws.proofs.Queue.{cell-equal, seek-none, mapped-final}
 use Rattle.order_laws.proofs.Sorts.{gate-inside, gate-parts}
 use Rattle.order_laws.proofs.Lists.{map-same}
+use Rattle.kept.proofs.Order.{cells-once}
 use Rattle.normal.proofs.Normal.{lookIn, Normal}
 use Rattle.normal.proofs.Alike.{visit-stays}
 use Rattle.merge_again.proofs.Whole.{none-changed, compact-whole}
-use Rattle.merge_again.proofs.Order.{cells-once}
 use Rattle.merge_again.proofs.Keys.{key-alike}
 use Rattle.merge_again.proofs.Single.{one-bit}
 

@@ -4,46 +4,22 @@ use mathlib.Core.Bool.{Bool, true, false}
 use mathlib.Core.List.{List}
 use Prim.Native.Nat.{ℕ, zero, suc, _+_, _-_, _≤_, _<_}
 use native.Mathlib.Omega.{arith}
-use native.Mathlib.Decide.{decLt}
-use lib.ListN.{length, getD, drop, List·getD-eq-default}
-use lib.Seq.{getD-drop}
+use lib.ListN.{length, getD}
 use Rattle.value.specs.declared.Net.{Net}
 use Rattle.value.specs.Value.{slotAt}
 use Rattle.cell.specs.declared.Cell.{Cell}
 use Rattle.netlist.specs.Shape.{visit, visitMut, hasEffects}
-use Rattle.netlist.specs.Netlist.{Netlist, cellIn, run, startOf, outputOf}
+use Rattle.netlist.specs.Netlist.{Netlist, cellIn, startOf, outputOf}
 use Rattle.design.specs.Compact.{keep, isKept, netMap, compact}
 use Rattle.order_laws.specs.Members.{All, Drives}
-use Rattle.order_laws.proofs.Members.{all-imp, all-both, all-tabulate}
+use Rattle.order_laws.proofs.Members.{all-imp, all-both}
 use Rattle.order_laws.proofs.Operands.{all-visited}
 use Rattle.order_laws.proofs.Sorts.{effects-mapped}
 use Rattle.levels_laws.specs.Algebra.{Before, Ranked}
 use Rattle.kept.proofs.Chosen.{count, count-yes, PlaceOf, place-of, SlotAt, slot-at}
-use Rattle.kept.proofs.Sound.{Sound, run-above, Inner, inner, Bit, output-bits, start-inside, start-zero}
+use Rattle.kept.proofs.Sound.{Sound, Inner, inner, Bit, output-bits, bits-start, start-inside, start-zero}
 use Rattle.kept.proofs.Keep.{KeptNet, effects-kept, reads-kept, marked-has}
 use Rattle.kept.proofs.Compact.{old, cell-at, compact-length, compact-sound, bit-at, mapped-slot}
-
--- the bits of the cell that starts at a slot are numbered from there, and each has its start there
-module _ (d : Netlist) (rank : ℕ → ℕ) (sound : Sound d rank) (s : ℕ) (first : getD (d .bits) s 0 ≡ 0) where
-  bit-number : (j : ℕ) → j ≤ run (drop (s + 1) (d .bits)) → getD (d .bits) (s + j) 0 ≡ j
-  bit-number zero h = ap (λ (i : ℕ). getD (d .bits) i 0) (omega arith) ∙ first
-  bit-number (suc j) h =
-      let before : getD (d .bits) (s + j) 0 ≡ j = bit-number j (omega arith) in
-      let above : getD (d .bits) (s + suc j) 0 ≡ 0 → ⊥ =
-      λ z. run-above j (drop (s + 1) (d .bits)) (omega arith) (getD-drop (s + 1) (d .bits) j 0 ∙ ap (λ (i : ℕ). getD (d .bits) i 0) (omega arith) ∙ z) in
-      go before above (decLt (s + suc j) (length (d .cells)))
-    where
-      go : getD (d .bits) (s + j) 0 ≡ j → (getD (d .bits) (s + suc j) 0 ≡ 0 → ⊥) → Dec (s + suc j < length (d .cells)) → getD (d .bits) (s + suc j) 0 ≡ suc j
-      go before above (no l) = absurd (above (List·getD-eq-default (d .bits) 0 (let w : length (d .bits) ≡ length (d .cells) = sound .wide in omega arith)))
-      go before above (yes l) =
-          sym (inner d rank sound (s + suc j) l above .bit)
-          ∙ ap (λ (i : ℕ). getD (d .bits) i 0 + 1) (let q : s + suc j - 1 ≡ s + j = omega arith in q) ∙ omega arith
-
-  bits-start : All (λ i. startOf (d .bits) i ≡ s) (outputOf (d .bits) s)
-  unfolding outputOf
-  bits-start =
-      all-tabulate (λ i. startOf (d .bits) i ≡ s) (λ i. s + i) (suc (run (drop (s + 1) (d .bits))))
-      (λ j h. let e : getD (d .bits) (s + j) 0 ≡ j = bit-number j (omega arith) in omega arith)
 
 module _ (d : Netlist) (rank : ℕ → ℕ) (sound : Sound d rank) where
   abbrev total : ℕ

@@ -8,11 +8,11 @@ use lib.ListN.{length}
 use Rattle.cell.specs.declared.Record.{Record}
 use Rattle.cell.specs.Records.{recordsOf}
 use Rattle.netlist.specs.Areas.{recordsIn, Within}
-use Rattle.netlist.specs.Netlist.{netlistOf}
+use Rattle.netlist.specs.Netlist.{Netlist, netlistOf}
 use Rattle.netlist.proofs.Frames.{within-drop}
 use Rattle.design.specs.Compact.{compact}
 use Rattle.design.specs.Words.{netlistIn}
-use Rattle.merge.specs.Merge.{merge}
+use Rattle.merge.specs.Merge.{merging, mergedNetlist, merge}
 use Rattle.merge.specs.Words.{Sequenced, MergesNetlist}
 use Rattle.checking.specs.declared.Refusal.the-variants.{ShortWork}
 use Rattle.checking.specs.declared.Verdict.{Verdict}
@@ -37,7 +37,7 @@ loaded-sequenced t n ws loaded passed = records-sequenced (recordsIn n ws) (ap (
 pub merged-loads : (t : List ℕ) (n : ℕ) (ws₀ ws ws₁ : List ℕ) (r : Bool) → MergesNetlist n ws ws₁ r → recordsIn n ws ≡ recordsOf t → Within 0 4096 ws₀ ws
     → LoadsMerged t n ws₀ ws₁ r
 merged-loads t n ws₀ ws ws₁ r m loaded frame = record {
-  result = m .result ∙ ap (λ (rs : List Record). merge (netlistOf rs) .0) loaded;
+  result = m .result ∙ ap (λ (rs : List Record). mergedNetlist (netlistOf rs) (merging (netlistOf rs))) loaded;
   flag = m .flag ∙ ap (λ (rs : List Record). merge (netlistOf rs) .1) loaded;
   rest = within-drop 0 15360 16384 ws ws₁ (omega arith) (m .frame) ∙ within-drop 0 4096 16384 ws₀ ws (omega arith) frame;
 }
@@ -50,10 +50,10 @@ flagged (verdict.Refused x) bytes changed = refl
 pub merged-delivers : (t : List ℕ) (n : ℕ) (ws ws₁ ws₂ reply reply′ : List ℕ) (w : Written) (changed : Bool) (r : Merged) → r ≡ withFlag w changed
     → Delivers (encoded (compact (netlistIn n ws₁))) ws₁ ws₂ reply reply′ w → LoadsMerged t n ws ws₁ changed
     → Merges (room reply (mergeBytes t) ∷ []) t ws ws₂ reply reply′ r
-unfolding mergeBytes
+unfolding mergeBytes merge
 merged-delivers t n ws ws₁ ws₂ reply reply′ w changed r r-is d m =
     let e : Delivers (mergeBytes t) ws ws₂ reply reply′ w =
-    delivers-from (encoded (compact (netlistIn n ws₁))) (mergeBytes t) ws ws₁ ws₂ reply reply′ w (ap encoded (m .result)) (m .rest) d in
+    delivers-from (encoded (compact (netlistIn n ws₁))) (mergeBytes t) ws ws₁ ws₂ reply reply′ w (ap (λ (e : Netlist). encoded (compact e)) (m .result)) (m .rest) d in
     let v : Verdict = firstOf (room reply (mergeBytes t) ∷ []) in
     record {
       said =

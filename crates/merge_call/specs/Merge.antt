@@ -7,8 +7,7 @@ use lib.ListN.{length, drop}
 use Rattle.cell.specs.Limits.{workWords}
 use Rattle.netlist.specs.Areas.{recordsIn}
 use Rattle.netlist.specs.Netlist.{netlistOf}
-use Rattle.design.specs.Compact.{compact}
-use Rattle.merge.specs.Merge.{merge}
+use Rattle.merge.specs.Merge.{merging, mergedNetlist, merge}
 use Rattle.checking.specs.Refusals.{Stage}
 use Rattle.calls.specs.declared.Written.{Written}
 use Rattle.calls.specs.declared.Written.the-variants as written
@@ -25,7 +24,7 @@ withFlag (written.Refused x) changed = merged.Refused x
 
 -- the records of a ticket were loaded and merged
 pub record LoadsMerged (t : List ℕ) (n : ℕ) (ws ws′ : List ℕ) (r : Bool) : Type 0 where
-  pub result : compact (netlistOf (recordsIn n ws′)) ≡ merge (decoded t) .0
+  pub result : netlistOf (recordsIn n ws′) ≡ mergedNetlist (decoded t) (merging (decoded t))
   pub flag : r ≡ merge (decoded t) .1
   pub rest : drop workWords ws′ ≡ drop workWords ws
 

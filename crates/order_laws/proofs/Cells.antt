@@ -103,7 +103,7 @@ module _ (n : ℕ) (deps : ℕ → List ℕ) where
         (λ g. g ∙ sym e))
 
 -- those of a list that is once are once
-once-those : (q : ℕ → Bool) (before before′ xs : List ℕ) → ((x : ℕ) → has x before ≡ false → has x before′ ≡ false) → OnceAfter before xs
+pub once-those : (q : ℕ → Bool) (before before′ xs : List ℕ) → ((x : ℕ) → has x before ≡ false → has x before′ ≡ false) → OnceAfter before xs
     → OnceAfter before′ (those q xs)
 unfolding OnceAfter those
 once-those q before before′ [] f o = tt

@@ -3,12 +3,14 @@ use mathlib.Core.Path.{_≡_, refl, sym, ap, ap₂, _∙_, subst}
 use mathlib.Core.Bool.{Bool, true, false, cond, _&&_}
 use mathlib.Core.List.{List, [], _∷_, _++_}
 use mathlib.Core.Logic.{_⊎_, inl, inr}
-use Prim.Native.Nat.{ℕ, zero, suc, _<_}
+use Prim.Native.Nat.{ℕ, zero, suc, _+_, _-_, _≤_, _<_}
 use native.Mathlib.Omega.{arith}
 use lib.Dec.{eqb}
 use lib.ListN.{length, length-map}
 use borrow.Author.Tests.{eqb-true}
 use Rattle.value.specs.declared.Net.{Net}
+use Rattle.value.specs.declared.Driver.{Driver}
+use Rattle.value.specs.declared.Driver.the-variants as driven
 use Rattle.value.specs.Value.{eqNet, driver}
 use Rattle.value.proofs.Laws.{net-test}
 use Rattle.cell.specs.declared.Record.{Record}
@@ -22,6 +24,7 @@ use Rattle.design.specs.declared.Found.{Found}
 use Rattle.design.specs.declared.Found.the-variants.{At, Nothing}
 use Rattle.design.specs.Queue.{drivenTo, followed, mapNetNew, Entry, eqRecord, eqCell, seek, applied, Design}
 use Rattle.order_laws.specs.Members.{All}
+use Rattle.order_laws.specs.Ends.{Final, Ends}
 use Rattle.order_laws.proofs.Truth.{eqb-self, and-both, and-true}
 use Rattle.order_laws.proofs.Sorts.{record-bit}
 use Rattle.order_laws.proofs.Lists.{getD-mapped}
@@ -141,6 +144,32 @@ module _ (rs : List Net) where
       go : (k : ℕ) → 0 < k → followed k rs m ≡ m′
       go zero h = absurd (omega arith)
       go (suc k) h = followed-first k m ∙ ap (followed k rs) e ∙ followed-final k m′ f
+
+  -- where a net's look-up ends, more steps than it may take change nothing
+  followed-on : (k j : ℕ) (m : Net) → followed (k + j) rs m ≡ followed j rs (followed k rs m)
+  unfolding followed
+  followed-on zero j m = ap (λ (i : ℕ). followed i rs m) (let q : 0 + j ≡ j = omega arith in q)
+  followed-on (suc k) j m =
+      ap (λ (i : ℕ). followed i rs m) (let q : suc k + j ≡ suc (k + j) = omega arith in q)
+      ∙ followed-first (k + j) m ∙ followed-on k j (replacement m) ∙ ap (followed j rs) (sym (followed-first k m))
+
+  pub more-steps : (m : Net) → Ends rs m → (k : ℕ) → length rs ≤ k → followed k rs m ≡ mapNetNew rs m
+  unfolding mapNetNew
+  more-steps m e k l =
+      ap (λ (i : ℕ). followed i rs m) (let q : k ≡ length rs + (k - length rs) = omega arith in q)
+      ∙ followed-on (length rs) (k - length rs) m ∙ followed-final (k - length rs) (followed (length rs) rs m) e
+
+-- a net whose replacement is final: one step is enough, and so is the number of slots
+pub one-step-ends : (rs : List Net) (m : Net) → Final rs (replacement rs m) → Ends rs m
+unfolding mapNetNew followed
+one-step-ends [] m e = go (driver m) refl
+  where
+    go : (x : Driver) → driver m ≡ x → Final [] m
+    go (driven.Const t) q = ap (drivenTo [] m) q
+    go (driven.Cell s) q = ap (drivenTo [] m) q
+one-step-ends (r ∷ rs) m e =
+    let q : mapNetNew (r ∷ rs) m ≡ replacement (r ∷ rs) m = mapped-once (r ∷ rs) m (replacement (r ∷ rs) m) (omega arith) refl e in
+    subst (Final (r ∷ rs)) (sym q) e
 
 -- the netlist after them
 pub applied-length : (d : Design) → length (applied d) ≡ length (d .cells)

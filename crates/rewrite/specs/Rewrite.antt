@@ -1,5 +1,5 @@
 -- Rewriting (netlist/src/rewrite.rs). Assumes nothing: these are definitions.
-use mathlib.Core.Bool.{Bool, cond}
+use mathlib.Core.Bool.{cond}
 use mathlib.Core.List.{List, [], _∷_, _++_}
 use Prim.Native.Nat.{ℕ, zero, suc, _-_}
 use lib.ListN.{length, replicate}
@@ -11,7 +11,7 @@ use Rattle.netlist.specs.Netlist.{Netlist, cellIn}
 use Rattle.order.specs.Orders.{topoSort}
 use Rattle.design.specs.declared.Found.{Found}
 use Rattle.design.specs.declared.Found.the-variants.{Nothing, At}
-use Rattle.design.specs.Queue.{Design, netIn, mapNetNew, replaceCell, replaceNet, applied, seek}
+use Rattle.design.specs.Queue.{netIn, mapNetNew, replaceCell, replaceNet, applied, seek}
 use Rattle.design.specs.Compact.{compact}
 use Rattle.normalize.specs.declared.Outcome.{Outcome}
 use Rattle.normalize.specs.declared.Outcome.the-variants.{None, Value, Form, Add, NotOf, AddNotOf}
@@ -112,7 +112,8 @@ abbrev pub bitDone : ℕ → Added → Run
 bitDone s (at n r) = ran (finished r s (replaceNet (r .design) s n) (r .cache))
 bitDone s (unadded r) = stuck r
 
--- arm `TopoSortItem::Cell`; c is the cell with its operands mapped
+-- arm `TopoSortItem::Cell`; c is the cell with its operands mapped. Before it caches a new form the Rust asks `has_effects` once more: no rule
+-- applies to a cell with effects, and none makes one of a gate (rewrite_laws, `rules-effect` and `rules-read`), so every form is cached
 abbrev pub cellDone : ℕ → Cell → Result → Run
 cellDone s c (none r) = ran (cond (hasEffects c) r (finished r s (r .design) (r .cache ++ ((c, netIn s) ∷ []))))
 cellDone s c (cell d r) = ran (finished r s (replaceCell (r .design) s d) (r .cache ++ ((d, netIn s) ∷ [])))

@@ -1,6 +1,6 @@
 -- WHAT REWRITING KEEPS: for every accepted ticket whose rewriting takes at most 1,024 slots, and every stimulus, an output that had level 0 or 1 has it
 -- still. Assumes nothing.
-use mathlib.Core.Path.{_≡_, sym, ap, ap₂, _∙_, subst}
+use mathlib.Core.Path.{_≡_, sym, ap, ap₂, _∙_, subst, subst₂}
 use mathlib.Core.Bool.{not}
 use mathlib.Core.List.{List, [], _∷_, _++_, map, append-assoc}
 use Prim.Native.Nat.{ℕ, _/_, _≤_}
@@ -12,7 +12,7 @@ use Rattle.logic.specs.Levels.{byteOf}
 use Rattle.cell.specs.Records.{recordsOf}
 use Rattle.loops.proofs.Rank.{rank}
 use Rattle.checking.specs.declared.Verdict.{Verdict}
-use Rattle.checking.specs.declared.Verdict.the-variants.{Pass, Refused}
+use Rattle.checking.specs.declared.Verdict.the-variants.{Pass}
 use Rattle.checking.specs.declared.Refusal.the-variants.{LevelCount, LevelValue, ShortReply}
 use Rattle.checking.specs.Refusals.{Stage, firstOf, slotBySlot}
 use Rattle.checking.specs.Checking.{checkStages}
@@ -25,20 +25,20 @@ use Rattle.rewrite.specs.Rewrite.{slotsOf}
 use Rattle.levels.specs.Evaluate.{inputSlots, outputLevels}
 use Rattle.calls.specs.declared.Written.the-variants as written
 use Rattle.calls.specs.Answers.{writtenBy}
-use Rattle.calls.specs.Calls.{put, decoded, replyAfter, room, checkVerdict, rewriteRun, rewriteBytes, rewriteStages, rewriteVerdict, rewriteAnswer, rewriteReply, levelBytes, stimulusStages, levelVerdict, levelAnswer, levelReply}
+use Rattle.calls.specs.Calls.{decoded, room, checkVerdict, rewriteRun, rewriteBytes, rewriteStages, rewriteVerdict, rewriteAnswer, rewriteReply, levelBytes, stimulusStages, levelVerdict, levelAnswer, levelReply}
 use Rattle.order_laws.specs.Ordered.{FedAfter}
 use Rattle.accepted_laws.proofs.Accepted.{accepted-wired, accepted-fed}
 use Rattle.kept.specs.Kept.{Bytes}
 use Rattle.kept.proofs.Sound.{Sound}
 use Rattle.kept.proofs.Tickets.{ticket-sound, ticket-passes}
-use Rattle.kept.proofs.Calls.{written-count}
+use Rattle.kept.proofs.Calls.{written-first, written-later, written-count}
 use Rattle.rewrite_sound.specs.Rewritten.{Rewritten}
 use Rattle.rewrite_sound.proofs.Operands.{rank as rank-of}
 use Rattle.rewrite_sound.proofs.Result.{Ran, before-sound, rewrite-inputs, rewrite-levels}
 use Rattle.rewrite_sound.proofs.Calls.{RunsOn, rust-runs, ticket-ran, rewrite-gives, rewrite-call-by}
 use Rattle.rewrite_kept.specs.Definite.{Definite, KeptDefinite}
 use Rattle.rewrite_kept.proofs.Runs.{Looks, rust-looks}
-use Rattle.rewrite_kept.proofs.Outputs.{definite-refl, definite-append, applied-keeps}
+use Rattle.rewrite_kept.proofs.Outputs.{applied-keeps}
 
 -- as many inputs, and levels kept: the call `levels` answers alike, and keeps what is definite
 module _ (words : ℕ) (t u : List ℕ) (pass : checkVerdict words t ≡ Pass) (inputs : length (inputSlots (decoded u .cells)) ≡ length (inputSlots (decoded t .cells)))
@@ -60,23 +60,37 @@ module _ (words : ℕ) (t u : List ℕ) (pass : checkVerdict words t ≡ Pass) (
     unfolding levelAnswer
     same-answer = ap₂ writtenBy same-verdict (levels stimulus .long)
 
-    kept-reply : Definite (levelReply words t stimulus reply) (levelReply words u stimulus reply)
-    unfolding levelReply put
-    kept-reply =
-        subst (λ (w : Verdict). Definite (levelReply words t stimulus reply) (replyAfter w reply (levelBytes u stimulus))) (sym same-verdict)
-        (go (levelVerdict words t stimulus reply))
-      where
-        go : (w : Verdict) → Definite (replyAfter w reply (levelBytes t stimulus)) (replyAfter w reply (levelBytes u stimulus))
-        go Pass =
-            subst (λ (k : ℕ). Definite (put reply (levelBytes t stimulus)) (levelBytes u stimulus ++ drop k reply)) (sym (levels stimulus .long))
-            (definite-append (levelBytes t stimulus) (levelBytes u stimulus) (drop (length (levelBytes t stimulus)) reply) (levels stimulus))
-        go (Refused e) = definite-refl reply
+    -- where the call answers with a count
+    module _ (n : ℕ) (answer : levelAnswer words t stimulus reply ≡ written.Accepted n) where
+      counted : (levelVerdict words t stimulus reply ≡ Pass) × (n ≡ length (levelBytes t stimulus))
+      unfolding levelAnswer
+      counted = written-count (levelVerdict words t stimulus reply) (length (levelBytes t stimulus)) n answer
+
+      passes : levelVerdict words u stimulus reply ≡ Pass
+      passes = same-verdict ∙ counted .0
+
+      count-is : n ≡ length (levelBytes u stimulus)
+      count-is = counted .1 ∙ sym (levels stimulus .long)
+
+      kept-reply : Definite (take n (levelReply words t stimulus reply)) (take n (levelReply words u stimulus reply))
+      unfolding levelReply
+      kept-reply =
+          subst₂ (λ (bs cs : List ℕ). Definite bs cs)
+          (sym (written-first (levelVerdict words t stimulus reply) reply (levelBytes t stimulus) n (counted .0) (counted .1)))
+          (sym (written-first (levelVerdict words u stimulus reply) reply (levelBytes u stimulus) n passes count-is)) (levels stimulus)
+
+      same-later : drop n (levelReply words u stimulus reply) ≡ drop n (levelReply words t stimulus reply)
+      unfolding levelReply
+      same-later =
+          written-later (levelVerdict words u stimulus reply) reply (levelBytes u stimulus) n passes count-is
+          ∙ sym (written-later (levelVerdict words t stimulus reply) reply (levelBytes t stimulus) n (counted .0) (counted .1))
 
   kept-by : (length u / 16 ≤ 512 → checkVerdict words u ≡ Pass) → KeptDefinite words t u
   kept-by accepted = record {
     levels = levels;
     answers = λ l stimulus reply. same-answer (accepted (omega arith)) stimulus reply;
     replies = λ l stimulus reply. kept-reply (accepted (omega arith)) stimulus reply;
+    later = λ l stimulus reply. same-later (accepted (omega arith)) stimulus reply;
   }
 
 -- an accepted ticket

@@ -25,11 +25,12 @@ use Rattle.netlist.specs.Netlist.{cellIn}
 use Rattle.design.specs.declared.Source.the-variants.{Opaque}
 use Rattle.design.specs.Queue.{Design, Entry, netIn, drivenTo, mapNetNew, sourceIn, findNewCell}
 use Rattle.rewrite.specs.Rewriter.{Rewriter, stamp, findCell, entered, finished}
+use Rattle.order_laws.specs.Ends.{Final}
 use Rattle.order_laws.proofs.Truth.{either}
 use Rattle.order_laws.proofs.Members.{all-every}
 use Rattle.order_laws.proofs.Queue.{mapped-keeps, replacement}
 use Rattle.rewrite_laws.proofs.Settled.{limit, stamped-inside, tickets, SettledSlot, Settled, StandsFor, Inv, map-settled, stamped-settled}
-use Rattle.accepted_laws.proofs.Final.{Final, mapNetNew-final}
+use Rattle.accepted_laws.proofs.Final.{mapNetNew-final}
 use Rattle.levels_laws.specs.Algebra.{cellValue}
 use Rattle.levels_laws.specs.Instances.{kleene}
 use Rattle.levels_laws.proofs.Operands.{cell-same, cell-visitMut, cell-own, input-own}
@@ -139,7 +140,7 @@ module _ (v : Net → Trit) where
       unfolding findNewCell Settled
       new-cell-fits n h = by (mapNetNew rs n) (map-same n) (mapNetNew-final cs₀ r inv n) (map-settled cs₀ r inv n h) (driver (mapNetNew rs n)) refl
         where
-          by : (m : Net) → v m ≡ v n → Final cs₀ r inv m → Settled cs₀ (r .stamps) m → (x : Driver) → driver m ≡ x → SourceFits v n (sourceIn (r .design .cells) x)
+          by : (m : Net) → v m ≡ v n → Final (r .design .replaced) m → Settled cs₀ (r .stamps) m → (x : Driver) → driver m ≡ x → SourceFits v n (sourceIn (r .design .cells) x)
           by m e f k (driven.Const t) d = tt
           by m e f k (driven.Cell s) d = slot-fits n m s e d f (k s d)
 

@@ -8,3 +8,4 @@ pub mod Refined
 pub mod Valued
 pub mod Outputs
 pub mod Calls
+pub mod Forbidden

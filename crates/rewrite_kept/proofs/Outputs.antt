@@ -1,13 +1,12 @@
 -- The levels of the outputs, in their order, before and after rewriting. Assumes nothing.
 use mathlib.Core.Path.{_≡_, refl, sym, ap, ap₂, _∙_, subst}
 use mathlib.Core.Bool.{Bool, true}
-use mathlib.Core.List.{List, [], _∷_, _++_, map}
-use Prim.Native.Nat.{ℕ, zero, suc, _+_, _-_, _<_}
+use mathlib.Core.List.{List, [], _∷_, map}
+use Prim.Native.Nat.{ℕ, zero, suc, _<_}
 use native.Mathlib.Omega.{arith}
 use lib.Dec.{ltb}
-use lib.ListN.{length, getD, length-append, length-map, List·getD-append}
-use lib.Seq.{getD-append-add}
-use borrow.Author.Tests.{lt-ltb, ltb-true, ltb-false}
+use lib.ListN.{length, getD, length-map}
+use borrow.Author.Tests.{lt-ltb}
 use Rattle.logic.specs.declared.Trit.{Trit}
 use Rattle.logic.specs.declared.Trit.the-variants.{Undef}
 use Rattle.logic.specs.Levels.{byteOf, eqLevel, refines, Refines}
@@ -58,26 +57,6 @@ definite-levels f g xs h = record {
   long = length-map (map g xs) byteOf ∙ length-map xs g ∙ sym (length-map (map f xs) byteOf ∙ length-map xs f);
   same = λ k l. definite-at f g xs h k (omega arith);
 }
-
-pub definite-refl : (bs : List ℕ) → Definite bs bs
-definite-refl bs = record { long = refl; same = λ k l. refl }
-
--- with the same bytes behind
-pub definite-append : (bs cs rest : List ℕ) → Definite bs cs → Definite (bs ++ rest) (cs ++ rest)
-definite-append bs cs rest d = record {
-  long = length-append cs rest ∙ ap (λ (k : ℕ). k + length rest) (d .long) ∙ sym (length-append bs rest);
-  same = λ k l. either (ltb k (length bs)) (λ e. inside k (ltb-true k (length bs) e) l) (λ e. outside k (k - length bs) (omega (arith, ltb-false k (length bs) e)));
-}
-  where
-    inside : (k : ℕ) → k < length bs → getD (bs ++ rest) k 2 < 2 → getD (cs ++ rest) k 2 ≡ getD (bs ++ rest) k 2
-    inside k m l =
-        let e : getD (bs ++ rest) k 2 ≡ getD bs k 2 = List·getD-append bs rest 2 k m in
-        List·getD-append cs rest 2 k (omega (arith, d .long)) ∙ d .same k (omega arith) ∙ sym e
-
-    outside : (k i : ℕ) → k ≡ length bs + i → getD (cs ++ rest) k 2 ≡ getD (bs ++ rest) k 2
-    outside k i e =
-        ap (λ (j : ℕ). getD (cs ++ rest) j 2) (e ∙ ap (λ (n : ℕ). n + i) (sym (d .long))) ∙ getD-append-add cs rest i 2
-        ∙ sym (ap (λ (j : ℕ). getD (bs ++ rest) j 2) e ∙ getD-append-add bs rest i 2)
 
 -- the netlist of a run, after the change queue is applied
 module _ (look : Lookup) (cs₀ : List Cell) (looks : Looks look cs₀) (fed : FedAfter (length cs₀) (bitDeps cs₀) [] (topoSort cs₀)) (rank : ℕ → ℕ) (ranked : Ranked cs₀ rank)

@@ -177,7 +177,7 @@ module _ (look : Lookup) (r : Rewriter) (h : Stamped look r) where
       (lighter-more ts _ w x (weight-xor ts a b) (xor-less ts a b srcA srcB (h a) (h b) x (xorArm srcA srcB a b)))
       (lighter-more ts _ w y (omega (arith, weight-xor ts a b)) (xor-less ts b a srcB srcA (h b) (h a) y (xorArm srcB srcA b a)))
 
-  simple-falls : (c : Cell) → Lighter ts (weight ts c) (simpleAigOpt (findCell look r) c)
+  pub simple-falls : (c : Cell) → Lighter ts (weight ts c) (simpleAigOpt (findCell look r) c)
   unfolding simpleAigOpt
   simple-falls (Not a) = lighter-more ts 0 (weight ts (Not a)) (notRule (findCell look r a) a) (omega arith) (not-less ts (findCell look r a) a _ (notArm (findCell look r a) a))
   simple-falls (Aig p q) = aig-falls p q

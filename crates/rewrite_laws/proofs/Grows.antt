@@ -14,7 +14,7 @@ use Rattle.design.specs.Queue.{netIn, mapNetNew}
 use Rattle.normalize.specs.declared.Outcome.{Outcome}
 use Rattle.normalize.specs.declared.Outcome.the-variants.{None, Value, Form, Add, NotOf, AddNotOf}
 use Rattle.rewrite.specs.Rewriter.{Rewriter, Lookup, entered, finished}
-use Rattle.rewrite.specs.Rewrite.{rules, Result, none, cell, value, spent, Added, at, unadded, process, processCell, addCell, Run, ran, stuck, bitDone, cellDone, runItem, andThen, runItems}
+use Rattle.rewrite.specs.Rewrite.{rules, Result, none, cell, value, spent, Added, at, unadded, process, processCell, addCell, Run, ran, stuck, bitDone, cellDone, runItem, andThen, runItems, slotsOf}
 use Rattle.order_laws.specs.Ordered.{has}
 use Rattle.order_laws.proofs.Members.{has-first, has-later}
 use Rattle.aig_laws.specs.Reads.{GoodOutcome}
@@ -59,7 +59,7 @@ module _ (look : Lookup) (r : Rewriter) where
   any-outcome (NotOf c) = tt
   any-outcome (AddNotOf c) = tt
 
-  extending : Keeps look (Extends r) (λ r c. Unit {0}) (λ r n. Unit {0})
+  pub extending : Keeps look (Extends r) (λ r c. Unit {0}) (λ r n. Unit {0})
   extending = record {
     plan = λ r′ c p q. any-outcome (rules look r′ c);
     inverse = λ r′ n p v. tt;
@@ -167,3 +167,7 @@ module _ (look : Lookup) (n : ℕ) where
       go : (x : Run) → GrowsRun n r x → ((r : Rewriter) → GrowsRun n r (runItems look ss r)) → GrowsRun n r (andThen (runItems look ss) x)
       go (ran r′) g ih = on r′ (runItems look ss r′) g (ih r′)
       go (stuck r′) g ih = g
+
+pub grown-slots : (n : ℕ) (r : Rewriter) (z : Run) → GrowsRun n r z → length (r .design .cells) ≤ slotsOf z
+grown-slots n r (ran r′) g = g .slots
+grown-slots n r (stuck r′) g = g .slots

@@ -136,14 +136,37 @@ module _ (cs : List Cell) where
   unfolding OnceAfter FedAfter
   next-of before ss s c = record { small = c .small s (has-first s ss); new = c .once .0; fed = c .fed .0; later = ss; is = c .is }
 
-  -- the run, where each bit stands after those that it depends on
-  pub run-along : (P : List ℕ → Rewriter → Type 0) (Q : Rewriter → Type 0) (look : Lookup) → FedAfter (length cs) (bitDeps cs) [] (topoSort cs)
-      → ((before : List ℕ) (s : ℕ) → Next before s → (r : Rewriter) → P before r → Along P Q (before ++ (s ∷ [])) (runItem look s r))
-      → P [] (begun cs) → Along P Q (topoSort cs) (run look cs)
-  unfolding run
-  run-along P Q look fed item p =
-      items-along P Q look Coming coming-next (λ before ss s c. item before s (next-of before ss s c)) (topoSort cs) []
-      (record { is = refl; once = topoSort-each cs .once; fed = fed; small = topoSort-each cs .small }) (begun cs) p
+  -- the beginning of the run, and the run, where each bit stands after those that it depends on
+  module _ (P : List ℕ → Rewriter → Type 0) (Q : Rewriter → Type 0) (look : Lookup) (fed : FedAfter (length cs) (bitDeps cs) [] (topoSort cs))
+      (item : (before : List ℕ) (s : ℕ) → Next before s → (r : Rewriter) → P before r → Along P Q (before ++ (s ∷ [])) (runItem look s r)) (p : P [] (begun cs)) where
+    pub part-along : (before rest : List ℕ) → topoSort cs ≡ before ++ rest → Along P Q before (runItems look before (begun cs))
+    part-along before rest e =
+        items-along P Q look (λ b ss. Coming b (ss ++ rest)) (λ b ss s c. coming-next b (ss ++ rest) s c) (λ b ss s c. item b s (next-of b (ss ++ rest) s c)) before []
+        (record {
+          is = e;
+          once = subst (OnceAfter []) e (topoSort-each cs .once);
+          fed = subst (FedAfter (length cs) (bitDeps cs) []) e fed;
+          small = subst (Below (length cs) []) e (topoSort-each cs .small);
+        }) (begun cs) p
+
+    pub run-along : Along P Q (topoSort cs) (run look cs)
+    unfolding run
+    run-along = part-along (topoSort cs) [] (sym (append-nil (topoSort cs)))
+
+-- items one after another
+pub items-cut : (look : Lookup) (xs ys : List ℕ) (r r′ : Rewriter) → runItems look xs r ≡ ran r′ → runItems look (xs ++ ys) r ≡ runItems look ys r′
+unfolding runItems
+items-cut look [] ys r r′ e = let q : r ≡ r′ = cc in ap (runItems look ys) q
+items-cut look (x ∷ xs) ys r r′ e = go (runItem look x r) e (λ z. items-cut look xs ys z r′)
+  where
+    go : (y : Run) → andThen (runItems look xs) y ≡ ran r′ → ((z : Rewriter) → runItems look xs z ≡ ran r′ → runItems look (xs ++ ys) z ≡ runItems look ys r′)
+        → andThen (runItems look (xs ++ ys)) y ≡ runItems look ys r′
+    go (ran z) q ih = ih z q
+    go (stuck z) q ih = let c : _≡_ {A = ℕ} 0 1 = cc in absurd (omega arith)
+
+pub items-one : (look : Lookup) (s : ℕ) (r r′ : Rewriter) → runItem look s r ≡ ran r′ → runItems look (s ∷ []) r ≡ ran r′
+unfolding runItems
+items-one look s r r′ e = ap (andThen (runItems look [])) e
 
 -- What is said only as long as the slots are few, so that each has a net of its own
 abbrev pub FewSlots : Rewriter → Type 0

@@ -2,9 +2,9 @@
 -- steps never run out. Assumes nothing.
 use mathlib.Core.Path.{_≡_, refl, sym, ap, _∙_, subst}
 use mathlib.Core.Bool.{true, false, false≢true}
-use mathlib.Core.List.{List, [], _∷_, _++_}
+use mathlib.Core.List.{List, [], _∷_, _++_, append-nil}
 use mathlib.Core.Logic.{_⊎_, inl, inr}
-use Prim.Native.Nat.{ℕ, suc, _+_, _-_, _<_}
+use Prim.Native.Nat.{ℕ, suc, _+_, _<_}
 use native.Mathlib.Omega.{arith}
 use lib.Dec.{eqb}
 use lib.ListN.{length, getD, set, length-set, length-replicate}
@@ -20,7 +20,7 @@ use Rattle.order.specs.Orders.{bitDeps, topoSort}
 use Rattle.design.specs.declared.Found.the-variants.{At}
 use Rattle.design.specs.Queue.{Design, Entry, netIn, unchanged, mapNetNew, findNewCell, replaceNet, replaceCell, seek}
 use Rattle.rewrite.specs.Rewriter.{Rewriter, begun, stamp, finished}
-use Rattle.rewrite.specs.Rewrite.{Result, none, cell, value, spent, Added, at, unadded, processCell, addCell, Run, bitDone, cellDone, runItem, run}
+use Rattle.rewrite.specs.Rewrite.{Result, none, cell, value, spent, Added, at, unadded, processCell, addCell, Run, bitDone, cellDone, runItem, runItems, run}
 use Rattle.order_laws.specs.Ordered.{has}
 use Rattle.order_laws.specs.Members.{All, Drives, Wired}
 use Rattle.order_laws.proofs.Bits.{reads-deps, topoSort-fed}
@@ -35,7 +35,7 @@ use Rattle.rewrite_laws.proofs.Fuel.{Ended, Entered, processCell-ended,
 use Rattle.rewrite_laws.proofs.Kept.{KeptResult, KeptAdded, processCell-kept, addCell-kept}
 use Rattle.rewrite_laws.proofs.Settled.{tickets, SettledSlot, Settled, Inv, map-settled, stamped}
 use Rattle.rewrite_laws.proofs.Steps.{later-settled, finished-later, finished-inv}
-use Rattle.rewrite_laws.proofs.Items.{Along, FewSlots, few-item, gate-done, item-by, port-done, run-along}
+use Rattle.rewrite_laws.proofs.Items.{Along, FewSlots, few-item, gate-done, item-by, port-done, part-along}
 use Rattle.rewrite_laws.proofs.Keeping.{State, P, Q, N, keeping}
 
 module _ (cs₀ : List Cell) where
@@ -232,7 +232,12 @@ module _ (cs₀ : List Cell) where
           (processCell-ended findNewCell r (stamped cs₀ r (p few .inv)) c)))
 
     -- the law: where a rank falls along the bits' operands, and the slots taken have nets of their own, the run ends
-    pub run-ok : (rank : ℕ → ℕ) → ((s d : ℕ) → has d (bitDeps cs₀ s) ≡ true → rank d < rank s) → RunOk (topoSort cs₀) (run findNewCell cs₀)
-    run-ok rank falls =
-        run-along cs₀ (λ before r. FewSlots r → State cs₀ before r) (λ r. FewSlots r → ⊥) findNewCell (topoSort-fed cs₀ rank falls)
-        (λ before s n r p. item-ok before s (n .small) (n .new) (n .fed) r p) (λ few. begun-state)
+    module _ (rank : ℕ → ℕ) (falls : (s d : ℕ) → has d (bitDeps cs₀ s) ≡ true → rank d < rank s) where
+      pub part-ok : (before rest : List ℕ) → topoSort cs₀ ≡ before ++ rest → RunOk before (runItems findNewCell before (begun cs₀))
+      part-ok =
+          part-along cs₀ (λ before r. FewSlots r → State cs₀ before r) (λ r. FewSlots r → ⊥) findNewCell (topoSort-fed cs₀ rank falls)
+          (λ before s n r p. item-ok before s (n .small) (n .new) (n .fed) r p) (λ few. begun-state)
+
+      pub run-ok : RunOk (topoSort cs₀) (run findNewCell cs₀)
+      unfolding run
+      run-ok = part-ok (topoSort cs₀) [] (sym (append-nil (topoSort cs₀)))

@@ -20,6 +20,7 @@ use Rattle.order.specs.Orders.{topoSort}
 use Rattle.design.specs.Queue.{mapNetNew, applied}
 use Rattle.rewrite.specs.Rewriter.{Rewriter, stamp}
 use Rattle.order_laws.specs.Members.{All, Wired}
+use Rattle.order_laws.specs.Ends.{Final}
 use Rattle.order_laws.proofs.Bits.{topoSort-each}
 use Rattle.order_laws.proofs.Truth.{either, never}
 use Rattle.order_laws.proofs.Members.{all-imp}
@@ -29,7 +30,7 @@ use Rattle.order_laws.proofs.Queue.{applied-at, applied-length}
 use Rattle.rewrite_laws.proofs.Settled.{limit, stamped-inside, SettledSlot, Settled, Under, Inv, map-settled, map-lower, stamp-driven}
 use Rattle.rewrite_laws.proofs.Keeping.{State}
 use Rattle.rewrite_laws.proofs.Steps.{stamp-clocked}
-use Rattle.accepted_laws.proofs.Final.{Final, mapNetNew-final}
+use Rattle.accepted_laws.proofs.Final.{mapNetNew-final}
 use Rattle.rewrite_sound.proofs.Shaped.{Holds, holds-effects, Shaped}
 
 -- the state at the end of a run over a ticket whose operands name slots other than outputs
@@ -131,7 +132,7 @@ module _ (cs₀ : List Cell) (r : Rewriter) (end : Ended cs₀ r) where
   -- the law: an operand of a slot after the queue is applied is settled and final, and stamped below the slot
   pub record Operand (s : ℕ) (m : Net) : Type 0 where
     pub settled : Settled cs₀ ts m
-    pub final : Final cs₀ r inv m
+    pub final : Final (r .design .replaced) m
     pub below : stamp ts m < rank r s
 
   followed-operand : (s : ℕ) (m : Net) → Lower s m → Operand s (follow r m)

@@ -30,9 +30,9 @@ use Rattle.order_laws.proofs.Truth.{never, or-right}
 use Rattle.order_laws.proofs.Members.{has-first, has-later, has-append}
 use Rattle.aig_laws.specs.Reads.{GateOf}
 use Rattle.rewrite_laws.proofs.Settled.{Settled}
-use Rattle.rewrite_laws.proofs.Grows.{GrowsRun, runItems-grows}
+use Rattle.rewrite_laws.proofs.Grows.{grown-slots, runItems-grows}
 use Rattle.rewrite_laws.proofs.Running.{RunOk, c-settled, item-ok}
-use Rattle.rewrite_laws.proofs.Items.{item-by, port-done}
+use Rattle.rewrite_laws.proofs.Items.{item-by, items-cut, items-one, port-done}
 use Rattle.rewrite_laws.proofs.Keeping.{State}
 use Rattle.rewriter_state.specs.declared.Extent.{Extent}
 use Rattle.rewriter_state.specs.declared.Added.{Added}
@@ -310,24 +310,6 @@ unfolding FedAfter
 fed-at n deps before [] s ss o d h l = ap (has d) (append-nil before) ∙ o .0 d h l
 fed-at n deps before (x ∷ xs) s ss o d h l =
     ap (has d) (sym (append-assoc before (x ∷ []) xs)) ∙ fed-at n deps (before ++ (x ∷ [])) xs s ss (o .1) d h l
-
-items-cut : (look : Lookup) (xs ys : List ℕ) (r r′ : Rewriter) → runItems look xs r ≡ ran r′ → runItems look (xs ++ ys) r ≡ runItems look ys r′
-unfolding runItems
-items-cut look [] ys r r′ e = let q : r ≡ r′ = cc in ap (runItems look ys) q
-items-cut look (x ∷ xs) ys r r′ e = go (runItem look x r) e (λ z. items-cut look xs ys z r′)
-  where
-    go : (y : Run) → andThen (runItems look xs) y ≡ ran r′ → ((z : Rewriter) → runItems look xs z ≡ ran r′ → runItems look (xs ++ ys) z ≡ runItems look ys r′)
-        → andThen (runItems look (xs ++ ys)) y ≡ runItems look ys r′
-    go (ran z) q ih = ih z q
-    go (stuck z) q ih = let c : _≡_ {A = ℕ} 0 1 = cc in absurd (omega arith)
-
-items-one : (look : Lookup) (s : ℕ) (r r′ : Rewriter) → runItem look s r ≡ ran r′ → runItems look (s ∷ []) r ≡ ran r′
-unfolding runItems
-items-one look s r r′ e = ap (andThen (runItems look [])) e
-
-grown-slots : (n : ℕ) (r : Rewriter) (z : Run) → GrowsRun n r z → length (r .design .cells) ≤ slotsOf z
-grown-slots n r (ran r′) g = g .slots
-grown-slots n r (stuck r′) g = g .slots
 
 after-slots : (look : Lookup) (n : ℕ) (ss : List ℕ) → ((s : ℕ) → has s ss ≡ true → s < n) → (y : Run) → slotsOf y ≤ slotsOf (andThen (runItems look ss) y)
 after-slots look n ss h (ran r) = grown-slots n r (runItems look ss r) (runItems-grows look n ss h r)

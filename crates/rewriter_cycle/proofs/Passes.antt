@@ -1,12 +1,16 @@
 -- The laws of the cycle of rules and adder: what each of its members may ask of another, and what it gives where it returns. Assumes nothing.
 use mathlib.Core.Path.{_≡_, refl, sym, ap, _∙_, subst}
+use mathlib.Core.Bool.{Bool, true, false, true≢false}
 use mathlib.Core.List.{List, [], _∷_}
 use Prim.Native.Nat.{ℕ, zero, suc, _+_, _*_, _≤_, _<_}
 use native.Mathlib.Omega.{arith}
 use lib.ListN.{length, length-append}
 use Rattle.value.specs.declared.Net.{Net}
+use Rattle.value.specs.declared.ControlNet.{ControlNet}
+use Rattle.value.specs.declared.ControlNet.the-variants.{Pos, Neg}
+use Rattle.value.specs.Value.{UNDEF, ZERO, ONE}
 use Rattle.cell.specs.declared.Cell.{Cell}
-use Rattle.cell.specs.declared.Cell.the-variants.{Not}
+use Rattle.cell.specs.declared.Cell.the-variants.{Input, Output, Buf, Not, And, Or, Mux, Aig}
 use Rattle.netlist.specs.Areas.{Within}
 use Rattle.netlist.proofs.Frames.{within-then}
 use Rattle.design.specs.declared.Found.{Found}
@@ -15,16 +19,22 @@ use Rattle.design.specs.Queue.{netIn, findNewCell, seek}
 use Rattle.design.proofs.Words.{cells-length}
 use Rattle.normalize.specs.declared.Outcome.{Outcome}
 use Rattle.normalize.specs.declared.Outcome.the-variants.{None, Value, Form, Add, NotOf, AddNotOf}
-use Rattle.rewrite.specs.Rewriter.{Rewriter, weight, entered}
+use Rattle.normalize.specs.Outcomes.{_orElse_}
+use Rattle.normalize.specs.Normalize.{normalize}
+use Rattle.normalize.proofs.First.{none-orElse}
+use Rattle.design.specs.declared.Source.{Source}
+use Rattle.aig.specs.Aig.{notRule}
+use Rattle.rewrite.specs.Rewriter.{Rewriter, weight, findCell, entered}
 use Rattle.rewrite.specs.Rewrite.{rules, process}
 use Rattle.rewrite.specs.Rewrite as rewriting
 use Rattle.aig_laws.specs.Reads.{GateOf, GoodOutcome}
 use Rattle.rewrite_laws.specs.Stamps.{Lighter}
 use Rattle.rewrite_laws.proofs.Lightness.{lighter-more}
-use Rattle.rewrite_laws.proofs.Falling.{rules-fall}
+use Rattle.aig_laws.proofs.Reading.{simple-reads}
+use Rattle.rewrite_laws.proofs.Falling.{simple-falls, rules-fall}
 use Rattle.rewrite_laws.proofs.Kept.{KeptResult, KeptAdded, KeptPass, enter-kept, pass-kept, process-kept}
 use Rattle.rewrite_laws.proofs.Grows.{ExtendsResult, process-extends, extends-grows}
-use Rattle.rewrite_laws.proofs.Settled.{Settled, stamped}
+use Rattle.rewrite_laws.proofs.Settled.{Settled, stamped, settled-constants, found-settled}
 use Rattle.rewrite_laws.proofs.Items.{FewSlots}
 use Rattle.rewrite_laws.proofs.Keeping.{P, Q, N, keeping}
 use Rattle.rewriter_state.specs.declared.Extent.{Extent}
@@ -33,7 +43,8 @@ use Rattle.rewriter_state.specs.declared.Added.the-variants as added
 use Rattle.rewriter_cycle.specs.declared.Processed.{Processed}
 use Rattle.rewriter_cycle.specs.declared.Processed.the-variants as processed
 use Rattle.rewriter_state.specs.Words.{rewriterIn, Held, Enters}
-use Rattle.rewriter_cycle.specs.Cycle.{asValueOf, asNotOf, replacingOf, slotsAfter, slotsAdded, Left, Answers, AnswersAdd, Ready, ReadyFor, performMeasure, Performs, Processes, Adds}
+use Rattle.rewriter_cycle.specs.Cycle.{asValueOf, asNotOf, adds, unaddedOf, foundOf, askedOf, formOf, opted, ruled, slotsAfter, slotsAdded, Left, Answers, AnswersAdd, Ready, Performs, Processes, Adds}
+use Rattle.rewriter_cycle.proofs.Arms.{not-arm, and-arm, or-arm, input-arm, output-arm, buf-arm, mux-arm, not-adds}
 
 -- the words after a step, and after two
 pub left-same : (x : Extent) (ws : List ℕ) → Held x ws → Left x x ws ws
@@ -87,7 +98,7 @@ module _ (x : Extent) (ws ws′ : List ℕ) where
   not-answers (added.At n x′) y h = (ap rewriting.asNot (h .0), h .1)
   not-answers added.Full y h = (omega (arith, h .0, not-slots y), h .1)
 
-  replacing-answers : (d : Cell) (p : Processed) (y : rewriting.Result) → Answers x ws ws′ p y → Answers x ws ws′ (replacingOf d p) (rewriting.replacing d y)
+  replacing-answers : (d : Cell) (p : Processed) (y : rewriting.Result) → Answers x ws ws′ p y → Answers x ws ws′ (formOf true d p) (rewriting.replacing d y)
   replacing-answers d (processed.None x′) y h = (ap (rewriting.replacing d) (h .0), h .1)
   replacing-answers d (processed.Cell c x′) y h = (ap (rewriting.replacing d) (h .0), h .1)
   replacing-answers d (processed.Value n x′) y h = (ap (rewriting.replacing d) (h .0), h .1)
@@ -99,6 +110,30 @@ answers-on x y ws ws′ ws″ l (processed.None x′) z h = (h .0, left-on x y x
 answers-on x y ws ws′ ws″ l (processed.Cell c x′) z h = (h .0, left-on x y x′ ws ws′ ws″ l (h .1))
 answers-on x y ws ws′ ws″ l (processed.Value n x′) z h = (h .0, left-on x y x′ ws ws′ ws″ l (h .1))
 answers-on x y ws ws′ ws″ l processed.Full z h = (h .0, within-then 0 13312 ws ws′ ws″ (left-within x y ws ws′ l) (h .1))
+
+-- the cache was asked
+found-answers : (x y : Extent) (ws ws′ : List ℕ) (f : Found) → Left x y ws ws′ → Answers x ws ws′ (foundOf y f) (rewriting.asked (rewriterIn y ws′) f)
+found-answers x y ws ws′ (found.At n) l = (refl, l)
+found-answers x y ws ws′ found.Nothing l = (refl, l)
+
+pub asked-found : (x : Extent) (ws : List ℕ) (c : Cell) (u : Found) (n : Net) → u ≡ seek (rewriterIn x ws .cache) c → u ≡ found.At n → processed.Value n x ≡ askedOf x ws c
+asked-found x ws c u n e f = ap (foundOf x) (sym f ∙ e)
+
+pub asked-new : (x : Extent) (ws : List ℕ) (c : Cell) (u : Found) → u ≡ seek (rewriterIn x ws .cache) c → u ≡ found.Nothing → processed.None x ≡ askedOf x ws c
+asked-new x ws c u e f = ap (foundOf x) (sym f ∙ e)
+
+-- a form of a form
+form-false : (d : Cell) (p : Processed) → formOf false d p ≡ p
+form-false d (processed.None x) = refl
+form-false d (processed.Cell c x) = refl
+form-false d (processed.Value n x) = refl
+form-false d processed.Full = refl
+
+form-form : (f : Bool) (d e : Cell) (p : Processed) → formOf f d (formOf true e p) ≡ formOf true e p
+form-form f d e (processed.None x) = refl
+form-form f d e (processed.Cell c x) = refl
+form-form f d e (processed.Value n x) = refl
+form-form f d e processed.Full = refl
 
 -- slots never become fewer
 abbrev again : ℕ → Rewriter → Cell → rewriting.Result
@@ -151,6 +186,10 @@ held-slots x ws = cells-length (x .slots) ws
 
 pub held-few : (x : Extent) (ws : List ℕ) → Held x ws → FewSlots (rewriterIn x ws)
 held-few x ws h = omega (arith, h .fit, held-slots x ws)
+
+not-weight : (ts : List ℕ) (n : Net) → weight ts (Not n) ≡ 0
+unfolding weight
+not-weight ts n = refl
 
 -- what an outcome's cell weighs after the outcome is carried out: one that goes round again weighs less
 abbrev LighterPass : ℕ → rewriting.Result → Type 0
@@ -255,81 +294,143 @@ module _ (x : Extent) (ws ws′ : List ℕ) (c : Cell) (p : Processed) (s : Proc
         (omega (arith, q .0, enter-slots c (again k (rewriterIn x ws) c)), q .1);
   }
 
--- carrying out an outcome
-module _ (x : Extent) (ws : List ℕ) (o : Outcome) where
-  performs-by : (ws′ : List ℕ) (p : Processed) (o′ : Outcome) → o ≡ o′
-      → ((k : ℕ) → Lighter (rewriterIn x ws .stamps) k o′ → Answers x ws ws′ p (rewriting.perform (adder k) (rewriterIn x ws) o′)) → Performs x ws ws′ o p
-  performs-by ws′ p o′ e f = record {
+-- what the rules give for a cell
+module _ (x : Extent) (ws : List ℕ) (c : Cell) (g : Ready x ws c) where
+  abbrev r : Rewriter
+  r = rewriterIn x ws
+
+  abbrev ts : List ℕ
+  ts = rewriterIn x ws .stamps
+
+  abbrev cs : List Cell
+  cs = g .running .ticket
+
+  abbrev before : List ℕ
+  before = g .running .before
+
+  abbrev S : Net → Type 0
+  S = Settled cs ts
+
+  lighter : Lighter ts (weight ts c) (ruled x ws c)
+  lighter = rules-fall findNewCell r (stamped cs r (g .running .state .inv)) c
+
+  -- a cell that `SimpleAigOpt` adds
+  module _ (o : Outcome) (e : opted x ws c ≡ o) (d : Cell) where
+    added-ready : (GoodOutcome (GateOf S) S o → GateOf S d) → Ready x ws d
+    added-ready f =
+        let k : S UNDEF × S ZERO × S ONE = settled-constants cs ts in
+        let good : GoodOutcome (GateOf S) S (opted x ws c) =
+        simple-reads S (k .0) (k .1) (k .2) (findCell findNewCell r) (found-settled cs r (g .running .state .inv)) c (g .gate) in
+        record { running = g .running; gate = f (subst (GoodOutcome (GateOf S) S) e good) }
+
+    added-lighter : (Lighter ts (weight ts c) o → weight ts d < weight ts c) → weight ts d < weight ts c
+    added-lighter f = f (subst (Lighter ts (weight ts c)) e (simple-falls findNewCell r (stamped cs r (g .running .state .inv)) c))
+
+-- an outcome carried out
+module _ (x : Extent) (ws ws′ : List ℕ) (o u : Outcome) (e : o ≡ u) (p q : Processed) (f : p ≡ q) where
+  performs-by : ((k : ℕ) → Lighter (rewriterIn x ws .stamps) k u → Answers x ws ws′ q (rewriting.perform (adder k) (rewriterIn x ws) u)) → Performs x ws ws′ o p
+  performs-by h = record {
     said = λ k l.
-        subst (λ u. Answers x ws ws′ p (rewriting.perform (adder k) (rewriterIn x ws) u)) (sym e)
-        (f k (subst (Lighter (rewriterIn x ws .stamps) k) e l));
+        subst (λ o. Answers x ws ws′ p (rewriting.perform (adder k) (rewriterIn x ws) o)) (sym e)
+        (subst (λ p. Answers x ws ws′ p (rewriting.perform (adder k) (rewriterIn x ws) u)) (sym f)
+        (h k (subst (Lighter (rewriterIn x ws .stamps) k) e l)));
   }
 
-  pub performs-none : ReadyFor x ws o → o ≡ None → Performs x ws ws o (processed.None x)
-  performs-none g e = performs-by ws (processed.None x) None e (λ k l. (refl, left-same x ws (g .running .held)))
+performs-same : (x : Extent) (ws ws′ : List ℕ) (o u : Outcome) (p : Processed) → o ≡ u → Performs x ws ws′ u p → Performs x ws ws′ o p
+performs-same x ws ws′ o u p e s = performs-by x ws ws′ o u e p p refl (s .said)
 
-  pub performs-value : (n : Net) → ReadyFor x ws o → o ≡ Value n → Performs x ws ws o (processed.Value n x)
-  performs-value n g e = performs-by ws (processed.Value n x) (Value n) e (λ k l. (refl, left-same x ws (g .running .held)))
+-- without a cell added
+unadded-answers : (x : Extent) (ws : List ℕ) → Held x ws → (k : ℕ) (o : Outcome) → adds o ≡ false
+    → Answers x ws ws (unaddedOf x o) (rewriting.perform (adder k) (rewriterIn x ws) o)
+unadded-answers x ws h k None e = (refl, left-same x ws h)
+unadded-answers x ws h k (Value n) e = (refl, left-same x ws h)
+unadded-answers x ws h k (Form c) e = (refl, left-same x ws h)
+unadded-answers x ws h k (Add c) e = absurd (true≢false e)
+unadded-answers x ws h k (NotOf c) e = absurd (true≢false e)
+unadded-answers x ws h k (AddNotOf c) e = absurd (true≢false e)
 
-  pub performs-form : (d : Cell) → ReadyFor x ws o → o ≡ Form d → Performs x ws ws o (processed.Cell d x)
-  performs-form d g e = performs-by ws (processed.Cell d x) (Form d) e (λ k l. (refl, left-same x ws (g .running .held)))
+performs-unadded : (x : Extent) (ws : List ℕ) (o u : Outcome) (p : Processed) → Held x ws → o ≡ u → adds u ≡ false → p ≡ unaddedOf x u → Performs x ws ws o p
+performs-unadded x ws o u p h e a f = performs-by x ws ws o u e p (unaddedOf x u) f (λ k l. unadded-answers x ws h k u a)
 
-  ready-of : (d : Cell) (o′ : Outcome) → o ≡ o′ → (g : ReadyFor x ws o)
-      → (GoodOutcome (GateOf (Settled (g .running .ticket) (rewriterIn x ws .stamps))) (Settled (g .running .ticket) (rewriterIn x ws .stamps)) o′
-      → GateOf (Settled (g .running .ticket) (rewriterIn x ws .stamps)) d) → Ready x ws d
-  ready-of d o′ e g f = record {
-    running = g .running;
-    gate = f (subst (GoodOutcome (GateOf (Settled (g .running .ticket) (rewriterIn x ws .stamps))) (Settled (g .running .ticket) (rewriterIn x ws .stamps))) e (g .good));
-  }
+-- by what the tests decide
+module _ (x : Extent) (ws : List ℕ) (c : Cell) (o : Outcome) where
+  decided : (u : Outcome) (p : Processed) → Ready x ws c → o ≡ u → o ≡ opted x ws c → adds u ≡ false → p ≡ unaddedOf x u → Performs x ws ws (opted x ws c) p
+  decided u p g f e a q = performs-unadded x ws (opted x ws c) u p (g .running .held) (sym e ∙ f) a q
 
-  pub ready-add : (d : Cell) → o ≡ Add d → ReadyFor x ws o → Ready x ws d
-  ready-add d e g = ready-of d (Add d) e g (λ h. h)
+  pub opted-none : o ≡ None → Ready x ws c → o ≡ opted x ws c → Performs x ws ws (opted x ws c) (processed.None x)
+  opted-none f g e = decided None (processed.None x) g f e refl refl
 
-  pub ready-not : (d : Cell) → o ≡ NotOf d → ReadyFor x ws o → Ready x ws d
-  ready-not d e g = ready-of d (NotOf d) e g (λ h. h)
+  pub opted-value : (n : Net) → o ≡ Value n → Ready x ws c → o ≡ opted x ws c → Performs x ws ws (opted x ws c) (processed.Value n x)
+  opted-value n f g e = decided (Value n) (processed.Value n x) g f e refl refl
 
-  pub ready-both : (d : Cell) → o ≡ AddNotOf d → ReadyFor x ws o → Ready x ws d
-  ready-both d e g = ready-of d (AddNotOf d) e g (λ h. h)
+  pub opted-form : (d : Cell) → o ≡ Form d → Ready x ws c → o ≡ opted x ws c → Performs x ws ws (opted x ws c) (processed.Cell d x)
+  opted-form d f g e = decided (Form d) (processed.Cell d x) g f e refl refl
 
-  pub falls-add : (d : Cell) (t : ℕ) → o ≡ Add d → performMeasure (rewriterIn x ws .stamps) o ≡ t → 8 * weight (rewriterIn x ws .stamps) d + 4 < t
-  falls-add d t e m = omega (arith, ap (performMeasure (rewriterIn x ws .stamps)) e)
+pub not-unadded : (x : Extent) (ws : List ℕ) (a : Net) (src : Source) (o : Outcome) (p : Processed) → p ≡ unaddedOf x o → o ≡ notRule src a
+    → src ≡ findCell findNewCell (rewriterIn x ws) a → p ≡ unaddedOf x (opted x ws (Not a))
+not-unadded x ws a src o p f e h = f ∙ ap (unaddedOf x) (not-arm (findCell findNewCell (rewriterIn x ws)) a src h o e)
 
-  pub falls-not : (d : Cell) (t : ℕ) → o ≡ NotOf d → performMeasure (rewriterIn x ws .stamps) o ≡ t → 8 * weight (rewriterIn x ws .stamps) d + 4 < t
-  falls-not d t e m = omega (arith, ap (performMeasure (rewriterIn x ws .stamps)) e)
+-- `Cell::And`
+module _ (x : Extent) (ws : List ℕ) (a b : Net) where
+  abbrev conjunction : Cell
+  conjunction = Aig (Pos a) (Pos b)
 
-  pub falls-both : (d : Cell) (t : ℕ) → o ≡ AddNotOf d → performMeasure (rewriterIn x ws .stamps) o ≡ t → 8 * weight (rewriterIn x ws .stamps) d + 4 < t
-  falls-both d t e m = omega (arith, ap (performMeasure (rewriterIn x ws .stamps)) e)
+  and-is : opted x ws (And a b) ≡ Add (Aig (Pos a) (Pos b))
+  and-is = and-arm (findCell findNewCell (rewriterIn x ws)) a b
 
-  module _ (ws′ : List ℕ) (d : Cell) (a : Added) (s : Adds x ws ws′ d a) where
-    pub performs-add : (p : Processed) → o ≡ Add d → p ≡ asValueOf a → Performs x ws ws′ o p
-    performs-add p e f =
-        performs-by ws′ p (Add d) e (λ k l.
-        subst (λ p. Answers x ws ws′ p (rewriting.asValue (adder k (rewriterIn x ws) d))) (sym f)
-        (value-answers x ws ws′ a (adder k (rewriterIn x ws) d) (s .said k l)))
+  pub and-ready : Ready x ws (And a b) → Ready x ws (Aig (Pos a) (Pos b))
+  and-ready g = added-ready x ws (And a b) g (Add (Aig (Pos a) (Pos b))) and-is (Aig (Pos a) (Pos b)) (λ h. h)
 
-    pub performs-not : (p : Processed) → o ≡ NotOf d → p ≡ asNotOf a → Performs x ws ws′ o p
-    performs-not p e f =
-        performs-by ws′ p (NotOf d) e (λ k l.
-        subst (λ p. Answers x ws ws′ p (rewriting.asNot (adder k (rewriterIn x ws) d))) (sym f)
-        (not-answers x ws ws′ a (adder k (rewriterIn x ws) d) (s .said k l)))
+  pub and-falls : (t : ℕ) → Ready x ws (And a b) → 8 * weight (rewriterIn x ws .stamps) (And a b) ≡ t → 8 * weight (rewriterIn x ws .stamps) (Aig (Pos a) (Pos b)) + 3 < t
+  and-falls t g m = omega (arith, added-lighter x ws (And a b) g (Add (Aig (Pos a) (Pos b))) and-is (Aig (Pos a) (Pos b)) (λ h. h))
 
-    added-as : (b : Added) → a ≡ b → (k : ℕ) → weight (rewriterIn x ws .stamps) d < k → AnswersAdd x ws ws′ b (adder k (rewriterIn x ws) d)
-    added-as b e k h = subst (λ a. AnswersAdd x ws ws′ a (adder k (rewriterIn x ws) d)) e (s .said k h)
+  module _ (ws′ : List ℕ) (u : Added) (s : Adds x ws ws′ (Aig (Pos a) (Pos b)) u) where
+    and-by : (v : Added) (p : Processed) → u ≡ v → p ≡ asValueOf v → Performs x ws ws′ (opted x ws (And a b)) p
+    and-by v p e f =
+        performs-by x ws ws′ (opted x ws (And a b)) (Add (Aig (Pos a) (Pos b))) and-is p (asValueOf v) f (λ k l.
+        value-answers x ws ws′ v (adder k (rewriterIn x ws) (Aig (Pos a) (Pos b)))
+        (subst (λ v. AnswersAdd x ws ws′ v (adder k (rewriterIn x ws) (Aig (Pos a) (Pos b)))) e (s .said k l)))
 
-    pub performs-full : o ≡ AddNotOf d → a ≡ added.Full → Performs x ws ws′ o processed.Full
-    performs-full e f =
-        performs-by ws′ processed.Full (AddNotOf d) e (λ k l.
+    pub and-value : (n : Net) (y : Extent) → u ≡ added.At n y → Performs x ws ws′ (opted x ws (And a b)) (processed.Value n y)
+    and-value n y e = and-by (added.At n y) (processed.Value n y) e refl
+
+    pub and-full : u ≡ added.Full → Performs x ws ws′ (opted x ws (And a b)) processed.Full
+    and-full e = and-by added.Full processed.Full e refl
+
+-- `Cell::Or`
+module _ (x : Extent) (ws : List ℕ) (a b : Net) where
+  abbrev d : Cell
+  d = Aig (Neg a) (Neg b)
+
+  or-is : opted x ws (Or a b) ≡ AddNotOf (Aig (Neg a) (Neg b))
+  or-is = or-arm (findCell findNewCell (rewriterIn x ws)) a b
+
+  or-lighter : Ready x ws (Or a b) → weight (rewriterIn x ws .stamps) (Aig (Neg a) (Neg b)) < weight (rewriterIn x ws .stamps) (Or a b)
+  or-lighter g = added-lighter x ws (Or a b) g (AddNotOf (Aig (Neg a) (Neg b))) or-is (Aig (Neg a) (Neg b)) (λ h. h)
+
+  pub or-ready : Ready x ws (Or a b) → Ready x ws (Aig (Neg a) (Neg b))
+  or-ready g = added-ready x ws (Or a b) g (AddNotOf (Aig (Neg a) (Neg b))) or-is (Aig (Neg a) (Neg b)) (λ h. h)
+
+  pub or-falls : (t : ℕ) → Ready x ws (Or a b) → 8 * weight (rewriterIn x ws .stamps) (Or a b) ≡ t → 8 * weight (rewriterIn x ws .stamps) (Aig (Neg a) (Neg b)) + 3 < t
+  or-falls t g m = omega (arith, or-lighter g)
+
+  module _ (ws′ : List ℕ) (u : Added) (s : Adds x ws ws′ (Aig (Neg a) (Neg b)) u) where
+    added-as : (v : Added) → u ≡ v → (k : ℕ) → weight (rewriterIn x ws .stamps) d < k → AnswersAdd x ws ws′ v (adder k (rewriterIn x ws) d)
+    added-as v e k h = subst (λ v. AnswersAdd x ws ws′ v (adder k (rewriterIn x ws) d)) e (s .said k h)
+
+    pub or-full : u ≡ added.Full → Performs x ws ws′ (opted x ws (Or a b)) processed.Full
+    or-full f =
+        performs-by x ws ws′ (opted x ws (Or a b)) (AddNotOf d) or-is processed.Full processed.Full refl (λ k l.
         let z : AnswersAdd x ws ws′ added.Full (adder k (rewriterIn x ws) d) = added-as added.Full f k l in
         (omega (arith, z .0, addNot-slots k (adder k (rewriterIn x ws) d)), z .1))
 
-    module _ (n : Net) (y : Extent) (f : a ≡ added.At n y) where
-      pub falls-inverse : (t : ℕ) → o ≡ AddNotOf d → performMeasure (rewriterIn x ws .stamps) o ≡ t → 8 * weight (rewriterIn y ws′ .stamps) (Not n) + 4 < t
-      unfolding weight
-      falls-inverse t e m = omega (arith, ap (performMeasure (rewriterIn x ws .stamps)) e)
+    module _ (n : Net) (y : Extent) (f : u ≡ added.At n y) where
+      pub or-not-falls : (t : ℕ) → Ready x ws (Or a b) → 8 * weight (rewriterIn x ws .stamps) (Or a b) ≡ t → 8 * weight (rewriterIn y ws′ .stamps) (Not n) + 3 < t
+      or-not-falls t g m = omega (arith, or-lighter g, not-weight (rewriterIn y ws′ .stamps) n)
 
-      pub ready-inverse : o ≡ AddNotOf d → ReadyFor x ws o → Ready y ws′ (Not n)
-      ready-inverse e g =
-          let q : Ready x ws d = ready-both d e g in
+      pub or-not-ready : Ready x ws (Or a b) → Ready y ws′ (Not n)
+      or-not-ready g =
+          let q : Ready x ws d = or-ready g in
           let cs : List Cell = q .running .ticket in
           let b : List ℕ = q .running .before in
           let k : ℕ = suc (weight (rewriterIn x ws .stamps) d) in
@@ -338,127 +439,204 @@ module _ (x : Extent) (ws : List ℕ) (o : Outcome) where
           subst (KeepsAdded cs b) (z .0) (adder-keeps cs b k (rewriterIn x ws) d (λ few. q .running .state) (λ few. q .gate)) in
           ready-in cs b y ws′ (Not n) (z .1 .held) (h .0) (keeping cs b .inverse (rewriterIn y ws′) n (h .0) (h .1))
 
-      pub performs-both : (ws″ : List ℕ) (b : Added) (p : Processed) → o ≡ AddNotOf d → Adds y ws′ ws″ (Not n) b → p ≡ asValueOf b → Performs x ws ws″ o p
-      unfolding weight
-      performs-both ws″ b p e u v =
-          performs-by ws″ p (AddNotOf d) e (λ k l.
+      pub or-performs : (ws″ : List ℕ) (v : Added) (p : Processed) → Adds y ws′ ws″ (Not n) v → p ≡ asValueOf v → Performs x ws ws″ (opted x ws (Or a b)) p
+      or-performs ws″ v p i q =
+          performs-by x ws ws″ (opted x ws (Or a b)) (AddNotOf d) or-is p (asValueOf v) q (λ k l.
           let z : AnswersAdd x ws ws′ (added.At n y) (adder k (rewriterIn x ws) d) = added-as (added.At n y) f k l in
-          subst (λ p. Answers x ws ws″ p (rewriting.addNot (adder k) (adder k (rewriterIn x ws) d))) (sym v)
-          (subst (λ w. Answers x ws ws″ (asValueOf b) (rewriting.addNot (adder k) w)) (sym (z .0))
-          (answers-on x y ws ws′ ws″ (z .1) (asValueOf b) (rewriting.asValue (adder k (rewriterIn y ws′) (Not n)))
-          (value-answers y ws′ ws″ b (adder k (rewriterIn y ws′) (Not n)) (u .said k (omega (arith, l)))))))
+          subst (λ w. Answers x ws ws″ (asValueOf v) (rewriting.addNot (adder k) w)) (sym (z .0))
+          (answers-on x y ws ws′ ws″ (z .1) (asValueOf v) (rewriting.asValue (adder k (rewriterIn y ws′) (Not n)))
+          (value-answers y ws′ ws″ v (adder k (rewriterIn y ws′) (Not n)) (i .said k (omega (arith, l, not-weight (rewriterIn y ws′ .stamps) n))))))
 
--- processing a cell
-good-now : (B : Type 0) (q : Cell → Type 0) (v : Net → Type 0) (o : Outcome) → B → GoodOutcome (λ c. B → q c) (λ m. B → v m) o → GoodOutcome q v o
-good-now B q v None b h = tt
-good-now B q v (Value n) b h = h b
-good-now B q v (Form c) b h = h b
-good-now B q v (Add c) b h = h b
-good-now B q v (NotOf c) b h = h b
-good-now B q v (AddNotOf c) b h = h b
+-- an outcome that is the inverse of a cell
+module _ (x : Extent) (ws : List ℕ) (c d : Cell) (o : Outcome) where
+  pub inverse-ready : o ≡ NotOf d → Ready x ws c → o ≡ opted x ws c → Ready x ws d
+  inverse-ready f g e = added-ready x ws c g (NotOf d) (sym e ∙ f) d (λ h. h)
 
-measure-falls : (ts : List ℕ) (m t : ℕ) (o : Outcome) → Lighter ts m o → 8 * m + 3 ≡ t → performMeasure ts o < t
-measure-falls ts m t None l e = omega arith
-measure-falls ts m t (Value n) l e = omega arith
-measure-falls ts m t (Form c) l e = omega arith
-measure-falls ts m t (Add c) l e = omega arith
-measure-falls ts m t (NotOf c) l e = omega arith
-measure-falls ts m t (AddNotOf c) l e = omega arith
+  pub inverse-falls : (t : ℕ) → o ≡ NotOf d → Ready x ws c → 8 * weight (rewriterIn x ws .stamps) c ≡ t → o ≡ opted x ws c
+      → 8 * weight (rewriterIn x ws .stamps) d + 3 < t
+  inverse-falls t f g m e = omega (arith, added-lighter x ws c g (NotOf d) (sym e ∙ f) d (λ h. h))
 
-module _ (x : Extent) (ws : List ℕ) (c : Cell) (g : Ready x ws c) (o : Outcome) (e : o ≡ rules findNewCell (rewriterIn x ws) c) where
-  abbrev r : Rewriter
-  r = rewriterIn x ws
+  pub inverse-performs : (ws′ : List ℕ) (u : Added) (p : Processed) → p ≡ asNotOf u → Adds x ws ws′ d u → o ≡ NotOf d → o ≡ opted x ws c
+      → Performs x ws ws′ (opted x ws c) p
+  inverse-performs ws′ u p q s f e =
+      performs-by x ws ws′ (opted x ws c) (NotOf d) (sym e ∙ f) p (asNotOf u) q (λ k l.
+      not-answers x ws ws′ u (adder k (rewriterIn x ws) d) (s .said k l))
 
+-- `SimpleAigOpt` by the kind of the cell
+module _ (x : Extent) (ws : List ℕ) (c : Cell) where
+  pub arm-ready : (d : Cell) → c ≡ d → Ready x ws c → Ready x ws d
+  arm-ready d e g = subst (Ready x ws) e g
+
+  pub arm-falls : (d : Cell) (t : ℕ) → c ≡ d → 8 * weight (rewriterIn x ws .stamps) c + 1 ≡ t → 8 * weight (rewriterIn x ws .stamps) d < t
+  arm-falls d t e m = omega (arith, ap (weight (rewriterIn x ws .stamps)) e)
+
+  pub arm-performs : (ws′ : List ℕ) (d : Cell) (p : Processed) → c ≡ d → Performs x ws ws′ (opted x ws d) p → Performs x ws ws′ (opted x ws c) p
+  arm-performs ws′ d p e s = performs-same x ws ws′ (opted x ws c) (opted x ws d) p (ap (opted x ws) e) s
+
+  pub not-performs : (a : Net) (p : Processed) → Ready x ws c → c ≡ Not a → p ≡ unaddedOf x (opted x ws (Not a)) → Performs x ws ws (opted x ws c) p
+  not-performs a p g e f =
+      let look : Net → Source = findCell findNewCell (rewriterIn x ws) in
+      performs-unadded x ws (opted x ws c) (opted x ws (Not a)) p (g .running .held) (ap (opted x ws) e)
+      (ap adds (sym (not-arm look a (look a) refl (notRule (look a) a) refl)) ∙ not-adds (look a) a (notRule (look a) a) refl) f
+
+  none-performs : (d : Cell) → Ready x ws c → c ≡ d → opted x ws d ≡ None → Performs x ws ws (opted x ws c) (processed.None x)
+  none-performs d g e f = performs-unadded x ws (opted x ws c) None (processed.None x) (g .running .held) (ap (opted x ws) e ∙ f) refl refl
+
+  pub input-performs : (l : ℕ) → Ready x ws c → c ≡ Input l → Performs x ws ws (opted x ws c) (processed.None x)
+  input-performs l g e = none-performs (Input l) g e (input-arm (findCell findNewCell (rewriterIn x ws)) l)
+
+  pub output-performs : (a : Net) (l : ℕ) → Ready x ws c → c ≡ Output a l → Performs x ws ws (opted x ws c) (processed.None x)
+  output-performs a l g e = none-performs (Output a l) g e (output-arm (findCell findNewCell (rewriterIn x ws)) a l)
+
+  pub buf-performs : (a : Net) → Ready x ws c → c ≡ Buf a → Performs x ws ws (opted x ws c) (processed.None x)
+  buf-performs a g e = none-performs (Buf a) g e (buf-arm (findCell findNewCell (rewriterIn x ws)) a)
+
+  pub mux-performs : (s a b : Net) → Ready x ws c → c ≡ Mux s a b → Performs x ws ws (opted x ws c) (processed.None x)
+  mux-performs s a b g e = none-performs (Mux s a b) g e (mux-arm (findCell findNewCell (rewriterIn x ws)) s a b)
+
+-- all rules: `Normalize` decides, or it gives nothing
+module _ (x : Extent) (ws : List ℕ) (c : Cell) (o : Outcome) (e : o ≡ normalize c) where
+  ruled-as : (u : Outcome) → o ≡ u → ruled x ws c ≡ (u orElse opted x ws c)
+  unfolding rewriting.rules
+  ruled-as u f = ap (λ n. n orElse opted x ws c) (sym e ∙ f)
+
+  ruled-value : (n : Net) → Ready x ws c → o ≡ Value n → Performs x ws ws (ruled x ws c) (processed.Value n x)
+  unfolding _orElse_
+  ruled-value n g f = performs-unadded x ws (ruled x ws c) (Value n) (processed.Value n x) (g .running .held) (ruled-as (Value n) f) refl refl
+
+  ruled-form : (d : Cell) → Ready x ws c → o ≡ Form d → Performs x ws ws (ruled x ws c) (processed.Cell d x)
+  unfolding _orElse_
+  ruled-form d g f = performs-unadded x ws (ruled x ws c) (Form d) (processed.Cell d x) (g .running .held) (ruled-as (Form d) f) refl refl
+
+  ruled-opted : (ws′ : List ℕ) (p : Processed) → o ≡ None → Performs x ws ws′ (opted x ws c) p → Performs x ws ws′ (ruled x ws c) p
+  ruled-opted ws′ p f s = performs-same x ws ws′ (ruled x ws c) (opted x ws c) p (ruled-as None f ∙ none-orElse (opted x ws c)) s
+
+-- one pass over the rules
+module _ (x : Extent) (ws : List ℕ) (c : Cell) (g : Ready x ws c) (ws′ : List ℕ) (p : Processed) (s : Performs x ws ws′ (ruled x ws c) p) where
   abbrev w : ℕ
   w = weight (rewriterIn x ws .stamps) c
 
-  abbrev cs : List Cell
-  cs = g .running .ticket
-
-  abbrev before : List ℕ
-  before = g .running .before
-
-  few : FewSlots r
-  few = held-few x ws (g .running .held)
-
-  lighter : Lighter (r .stamps) w (rules findNewCell r c)
-  lighter = rules-fall findNewCell r (stamped cs r (g .running .state .inv)) c
-
-  pub outcome-ready : ReadyFor x ws o
-  outcome-ready =
-      let S : Net → Type 0 = Settled cs (r .stamps) in
-      record {
-        running = g .running;
-        good = subst (GoodOutcome (GateOf S) S) (sym e) (good-now (FewSlots r) (GateOf S) S (rules findNewCell r c) few
-            (keeping cs before .plan r c (λ few. g .running .state) (λ few. g .gate)));
-      }
-
-  pub outcome-falls : (t : ℕ) → 8 * weight (rewriterIn x ws .stamps) c + 3 ≡ t → performMeasure (rewriterIn x ws .stamps) o < t
-  outcome-falls t m = measure-falls (r .stamps) w t o (subst (Lighter (r .stamps) w) (sym e) lighter) m
-
   abbrev performed : ℕ → rewriting.Result
-  performed k = rewriting.perform (adder k) r (rules findNewCell r c)
+  performed k = rewriting.perform (adder k) (rewriterIn x ws) (ruled x ws c)
 
-  module _ (ws′ : List ℕ) (p : Processed) (s : Performs x ws ws′ o p) where
-    performed-as : (q : Processed) → p ≡ q → (k : ℕ) → w ≤ k → Answers x ws ws′ q (performed k)
-    performed-as q f k h =
-        subst (λ p. Answers x ws ws′ p (performed k)) f
-        (subst (λ o. Answers x ws ws′ p (rewriting.perform (adder k) r o)) e
-        (s .said k (subst (Lighter (r .stamps) k) (sym e) (lighter-more (r .stamps) w k (rules findNewCell r c) h lighter))))
+  performed-as : (q : Processed) → p ≡ q → (k : ℕ) → w ≤ k → Answers x ws ws′ q (performed k)
+  performed-as q f k h =
+      subst (λ p. Answers x ws ws′ p (performed k)) f (s .said k (lighter-more (rewriterIn x ws .stamps) w k (ruled x ws c) h (lighter x ws c g)))
 
-    pub none-known : (y : Extent) → p ≡ processed.None y → Held y ws′
-    none-known y f = performed-as (processed.None y) f w (omega arith) .1 .held
+  pub pass-held : (y : Extent) → p ≡ processed.None y → Held y ws′
+  pass-held y f = performed-as (processed.None y) f w (omega arith) .1 .held
 
-    -- one pass over the rules, with each number of steps
-    turn-by : (ws″ : List ℕ) (q : Processed) → ((k : ℕ) → w ≤ k → Answers x ws ws″ q (rewriting.goOn (again k) c (performed k))) → Processes x ws ws″ c q
-    unfolding process
-    turn-by ws″ q f = record { said = go }
-      where
-        go : (k : ℕ) → w < k → Answers x ws ws″ q (process k findNewCell r c)
-        go zero h = absurd (omega arith)
-        go (suc k) h = f k (omega arith)
+  -- with each number of steps
+  turn-by : (ws″ : List ℕ) (q : Processed) → ((k : ℕ) → w ≤ k → Answers x ws ws″ q (rewriting.goOn (again k) c (performed k))) → Processes x ws ws″ c q
+  unfolding process
+  turn-by ws″ q f = record { said = go }
+    where
+      go : (k : ℕ) → w < k → Answers x ws ws″ q (process k findNewCell (rewriterIn x ws) c)
+      go zero h = absurd (omega arith)
+      go (suc k) h = f k (omega arith)
 
-    pub process-found : (y : Extent) (u : Found) (n : Net) → p ≡ processed.None y → u ≡ seek (rewriterIn y ws′ .cache) c → u ≡ found.At n
-        → Processes x ws ws′ c (processed.Value n y)
-    process-found y u n f h q = turn-by ws′ (processed.Value n y) (λ k l.
-        let z : Answers x ws ws′ (processed.None y) (performed k) = performed-as (processed.None y) f k l in
-        (ap (rewriting.goOn (again k) c) (z .0) ∙ ap (rewriting.asked (rewriterIn y ws′)) (sym h ∙ q), z .1))
+  process-asked : (y : Extent) → p ≡ processed.None y → Processes x ws ws′ c (askedOf y ws′ c)
+  process-asked y f = turn-by ws′ (askedOf y ws′ c) (λ k l.
+      let z : Answers x ws ws′ (processed.None y) (performed k) = performed-as (processed.None y) f k l in
+      subst (λ v. Answers x ws ws′ (askedOf y ws′ c) (rewriting.goOn (again k) c v)) (sym (z .0))
+      (found-answers x y ws ws′ (seek (rewriterIn y ws′ .cache) c) (z .1)))
 
-    pub process-new : (y : Extent) (u : Found) → p ≡ processed.None y → u ≡ seek (rewriterIn y ws′ .cache) c → u ≡ found.Nothing
-        → Processes x ws ws′ c (processed.None y)
-    process-new y u f h q = turn-by ws′ (processed.None y) (λ k l.
-        let z : Answers x ws ws′ (processed.None y) (performed k) = performed-as (processed.None y) f k l in
-        (ap (rewriting.goOn (again k) c) (z .0) ∙ ap (rewriting.asked (rewriterIn y ws′)) (sym h ∙ q), z .1))
+  process-value : (n : Net) (y : Extent) → p ≡ processed.Value n y → Processes x ws ws′ c (processed.Value n y)
+  process-value n y f = turn-by ws′ (processed.Value n y) (λ k l.
+      let z : Answers x ws ws′ (processed.Value n y) (performed k) = performed-as (processed.Value n y) f k l in
+      (ap (rewriting.goOn (again k) c) (z .0), z .1))
 
-    pub process-value : (n : Net) (y : Extent) → p ≡ processed.Value n y → Processes x ws ws′ c (processed.Value n y)
-    process-value n y f = turn-by ws′ (processed.Value n y) (λ k l.
-        let z : Answers x ws ws′ (processed.Value n y) (performed k) = performed-as (processed.Value n y) f k l in
-        (ap (rewriting.goOn (again k) c) (z .0), z .1))
+  process-full : p ≡ processed.Full → Processes x ws ws′ c processed.Full
+  process-full f = turn-by ws′ processed.Full (λ k l.
+      let z : Answers x ws ws′ processed.Full (performed k) = performed-as processed.Full f k l in
+      (omega (arith, z .0, goOn-slots k c (performed k)), z .1))
 
-    pub process-full : p ≡ processed.Full → Processes x ws ws′ c processed.Full
-    process-full f = turn-by ws′ processed.Full (λ k l.
-        let z : Answers x ws ws′ processed.Full (performed k) = performed-as processed.Full f k l in
-        (omega (arith, z .0, goOn-slots k c (performed k)), z .1))
+  -- another form
+  module _ (d : Cell) (y : Extent) (f : p ≡ processed.Cell d y) where
+    form-lighter : weight (rewriterIn y ws′ .stamps) d < w
+    form-lighter =
+        subst (LighterPass w) (performed-as (processed.Cell d y) f w (omega arith) .0) (pass-lighter w w (rewriterIn x ws) (ruled x ws c) (lighter x ws c g))
 
-    -- another form
-    module _ (d : Cell) (y : Extent) (f : p ≡ processed.Cell d y) where
-      form-lighter : weight (rewriterIn y ws′ .stamps) d < w
-      form-lighter = subst (LighterPass w) (performed-as (processed.Cell d y) f w (omega arith) .0) (pass-lighter w w r (rules findNewCell r c) lighter)
+    form-ready : Ready y ws′ d
+    form-ready =
+        let cs : List Cell = g .running .ticket in
+        let b : List ℕ = g .running .before in
+        let z : Answers x ws ws′ (processed.Cell d y) (performed w) = performed-as (processed.Cell d y) f w (omega arith) in
+        let h : KeepsPass cs b c (rewriting.cell d (rewriterIn y ws′)) =
+        subst (KeepsPass cs b c) (z .0) (pass-keeps cs b w (rewriterIn x ws) c (λ few. g .running .state) (λ few. g .gate)) in
+        ready-in cs b y ws′ d (z .1 .held) (h .0) (h .1)
 
-      pub form-falls : (t : ℕ) → 8 * weight (rewriterIn x ws .stamps) c + 3 ≡ t → 8 * weight (rewriterIn y ws′ .stamps) d + 3 < t
-      form-falls t m = omega (arith, form-lighter)
+    process-form : (ws″ : List ℕ) (t : Processed) → Processes y ws′ ws″ d t → Processes x ws ws″ c (formOf true d t)
+    process-form ws″ t a = turn-by ws″ (formOf true d t) (λ k l.
+        let z : Answers x ws ws′ (processed.Cell d y) (performed k) = performed-as (processed.Cell d y) f k l in
+        subst (λ v. Answers x ws ws″ (formOf true d t) (rewriting.goOn (again k) c v)) (sym (z .0))
+        (answers-on x y ws ws′ ws″ (z .1) (formOf true d t) (rewriting.replacing d (again k (rewriterIn y ws′) d))
+        (replacing-answers y ws′ ws″ d t (again k (rewriterIn y ws′) d) (a .said k (omega (arith, l, form-lighter))))))
 
-      pub form-ready : Ready y ws′ d
-      form-ready =
-          let z : Answers x ws ws′ (processed.Cell d y) (performed w) = performed-as (processed.Cell d y) f w (omega arith) in
-          let h : KeepsPass cs before c (rewriting.cell d (rewriterIn y ws′)) =
-          subst (KeepsPass cs before c) (z .0) (pass-keeps cs before w r c (λ few. g .running .state) (λ few. g .gate)) in
-          ready-in cs before y ws′ d (z .1 .held) (h .0) (h .1)
+-- the loop over the forms of c: what is left of the form d at hand is what is left of c
+pub record Forms (x : Extent) (ws : List ℕ) (c : Cell) (y : Extent) (ws′ : List ℕ) (d : Cell) (replaced : Bool) : Type 0 where
+  pub ready : Ready y ws′ d
+  pub lighter : weight (rewriterIn y ws′ .stamps) d ≤ weight (rewriterIn x ws .stamps) c
+  pub left : (ws″ : List ℕ) (p : Processed) → Processes y ws′ ws″ d p → Processes x ws ws″ c (formOf replaced d p)
+  pub same : length ws′ ≡ length ws
 
-      pub process-form : (ws″ : List ℕ) (t u : Processed) → Processes y ws′ ws″ d t → u ≡ replacingOf d t → Processes x ws ws″ c u
-      process-form ws″ t u a b = turn-by ws″ u (λ k l.
-          let z : Answers x ws ws′ (processed.Cell d y) (performed k) = performed-as (processed.Cell d y) f k l in
-          subst (λ u. Answers x ws ws″ u (rewriting.goOn (again k) c (performed k))) (sym b)
-          (subst (λ v. Answers x ws ws″ (replacingOf d t) (rewriting.goOn (again k) c v)) (sym (z .0))
-          (answers-on x y ws ws′ ws″ (z .1) (replacingOf d t) (rewriting.replacing d (again k (rewriterIn y ws′) d))
-          (replacing-answers y ws′ ws″ d t (again k (rewriterIn y ws′) d) (a .said k (omega (arith, l, form-lighter)))))))
+pub forms-begin : (x : Extent) (ws : List ℕ) (c : Cell) → Ready x ws c → Forms x ws c x ws c false
+forms-begin x ws c g = record { ready = g; lighter = omega arith; left = λ ws″ p h. subst (Processes x ws ws″ c) (sym (form-false c p)) h; same = refl }
+
+module _ (x : Extent) (ws : List ℕ) (c : Cell) (y : Extent) (ws′ : List ℕ) (d : Cell) (replaced : Bool) (v : Forms x ws c y ws′ d replaced) where
+  pub forms-ready : Ready y ws′ d
+  forms-ready = v .ready
+
+  pub forms-fall : (t : ℕ) → 8 * weight (rewriterIn x ws .stamps) c + 2 ≡ t → 8 * weight (rewriterIn y ws′ .stamps) d + 1 < t
+  forms-fall t m = omega (arith, v .lighter)
+
+  -- a pass that leaves another form
+  module _ (ws″ : List ℕ) (p : Processed) (s : Performs y ws′ ws″ (ruled y ws′ d) p) (e : Cell) (z : Extent) (f : p ≡ processed.Cell e z) where
+    next-less : weight (rewriterIn z ws″ .stamps) e < weight (rewriterIn y ws′ .stamps) d
+    next-less = form-lighter y ws′ d (v .ready) ws″ p s e z f
+
+    next-form : length ws″ ≡ length ws′ → Forms x ws c z ws″ e true
+    next-form l = record {
+      ready = form-ready y ws′ d (v .ready) ws″ p s e z f;
+      lighter = omega (arith, v .lighter, next-less);
+      left = λ ws‴ q h.
+          subst (Processes x ws ws‴ c) (form-form replaced d e q) (v .left ws‴ (formOf true e q) (process-form y ws′ d (v .ready) ws″ p s e z f ws‴ q h));
+      same = l ∙ v .same;
+    }
+
+  -- `Normalize` decides
+  module _ (o : Outcome) (a : o ≡ normalize d) where
+    pub normal-value : (n : Net) → o ≡ Value n → Processes x ws ws′ c (processed.Value n y)
+    normal-value n f =
+        v .left ws′ (processed.Value n y) (process-value y ws′ d (v .ready) ws′ (processed.Value n y) (ruled-value y ws′ d o a n (v .ready) f) n y refl)
+
+    pub normal-less : (e : Cell) → o ≡ Form e → weight (rewriterIn y ws′ .stamps) e < weight (rewriterIn y ws′ .stamps) d
+    normal-less e f = next-less ws′ (processed.Cell e y) (ruled-form y ws′ d o a e (v .ready) f) e y refl
+
+    pub normal-form : (e : Cell) → o ≡ Form e → Forms x ws c y ws′ e true
+    normal-form e f = next-form ws′ (processed.Cell e y) (ruled-form y ws′ d o a e (v .ready) f) e y refl refl
+
+    -- or gives nothing, and `SimpleAigOpt` decides
+    module _ (b : o ≡ None) (ws″ : List ℕ) (p : Processed) (s : Performs y ws′ ws″ (opted y ws′ d) p) where
+      passed : Performs y ws′ ws″ (ruled y ws′ d) p
+      passed = ruled-opted y ws′ d o a ws″ p b s
+
+      pub forms-held : (z : Extent) → p ≡ processed.None z → Held z ws″
+      forms-held z f = pass-held y ws′ d (v .ready) ws″ p passed z f
+
+      pub forms-asked : (z : Extent) (u q : Processed) → p ≡ processed.None z → u ≡ askedOf z ws″ d → q ≡ formOf replaced d u → Processes x ws ws″ c q
+      forms-asked z u q f h e =
+          subst (Processes x ws ws″ c) (sym (e ∙ ap (formOf replaced d) h)) (v .left ws″ (askedOf z ws″ d) (process-asked y ws′ d (v .ready) ws″ p passed z f))
+
+      pub forms-value : (n : Net) (z : Extent) → p ≡ processed.Value n z → Processes x ws ws″ c (processed.Value n z)
+      forms-value n z f = v .left ws″ (processed.Value n z) (process-value y ws′ d (v .ready) ws″ p passed n z f)
+
+      pub forms-full : p ≡ processed.Full → Processes x ws ws″ c processed.Full
+      forms-full f = v .left ws″ processed.Full (process-full y ws′ d (v .ready) ws″ p passed f)
+
+      module _ (e : Cell) (z : Extent) (f : p ≡ processed.Cell e z) where
+        pub forms-less : weight (rewriterIn z ws″ .stamps) e < weight (rewriterIn y ws′ .stamps) d
+        forms-less = next-less ws″ p passed e z f
+
+        pub forms-on : length ws″ ≡ length ws′ → Forms x ws c z ws″ e true
+        forms-on l = next-form ws″ p passed e z f l

@@ -1,7 +1,8 @@
 -- The cycle of rules and adder in the words of the work slice. Assumes nothing: these are definitions.
 use mathlib.Core.Path.{_≡_}
+use mathlib.Core.Bool.{Bool, true, false, cond}
 use mathlib.Core.List.{List}
-use Prim.Native.Nat.{ℕ, _+_, _*_, _<_}
+use Prim.Native.Nat.{ℕ, _<_}
 use lib.ListN.{length}
 use Rattle.value.specs.declared.Net.{Net}
 use Rattle.cell.specs.declared.Cell.{Cell}
@@ -9,10 +10,13 @@ use Rattle.cell.specs.declared.Cell.the-variants.{Not}
 use Rattle.netlist.specs.Areas.{Within}
 use Rattle.normalize.specs.declared.Outcome.{Outcome}
 use Rattle.normalize.specs.declared.Outcome.the-variants.{None, Value, Form, Add, NotOf, AddNotOf}
-use Rattle.design.specs.Queue.{findNewCell}
-use Rattle.rewrite.specs.Rewriter.{weight}
+use Rattle.design.specs.declared.Found.{Found}
+use Rattle.design.specs.declared.Found.the-variants as found
+use Rattle.design.specs.Queue.{findNewCell, seek}
+use Rattle.aig.specs.Aig.{simpleAigOpt}
+use Rattle.rewrite.specs.Rewriter.{weight, findCell}
 use Rattle.rewrite.specs.Rewrite as rewriting
-use Rattle.aig_laws.specs.Reads.{GateOf, GoodOutcome}
+use Rattle.aig_laws.specs.Reads.{GateOf}
 use Rattle.rewrite_laws.specs.Stamps.{Lighter}
 use Rattle.rewrite_laws.proofs.Settled.{Settled}
 use Rattle.rewrite_laws.proofs.Keeping.{State}
@@ -32,11 +36,44 @@ abbrev pub asNotOf : Added → Processed
 asNotOf (added.At n x) = processed.Cell (Not n) x
 asNotOf added.Full = processed.Full
 
-abbrev pub replacingOf : Cell → Processed → Processed
-replacingOf d (processed.None x) = processed.Cell d x
-replacingOf d (processed.Cell c x) = processed.Cell c x
-replacingOf d (processed.Value n x) = processed.Value n x
-replacingOf d processed.Full = processed.Full
+-- whether an outcome adds a cell, and what it gives if it adds none
+abbrev pub adds : Outcome → Bool
+adds None = false
+adds (Value n) = false
+adds (Form c) = false
+adds (Add c) = true
+adds (NotOf c) = true
+adds (AddNotOf c) = true
+
+abbrev pub unaddedOf : Extent → Outcome → Processed
+unaddedOf x None = processed.None x
+unaddedOf x (Value n) = processed.Value n x
+unaddedOf x (Form c) = processed.Cell c x
+unaddedOf x (Add c) = processed.None x
+unaddedOf x (NotOf c) = processed.None x
+unaddedOf x (AddNotOf c) = processed.None x
+
+-- the cache is asked
+abbrev pub foundOf : Extent → Found → Processed
+foundOf x (found.At n) = processed.Value n x
+foundOf x found.Nothing = processed.None x
+
+abbrev pub askedOf : Extent → List ℕ → Cell → Processed
+askedOf x ws c = foundOf x (seek (rewriterIn x ws .cache) c)
+
+-- what is left of d, where it is a form of another cell
+abbrev pub formOf : Bool → Cell → Processed → Processed
+formOf f d (processed.None x) = cond f (processed.Cell d x) (processed.None x)
+formOf f d (processed.Cell c x) = processed.Cell c x
+formOf f d (processed.Value n x) = processed.Value n x
+formOf f d processed.Full = processed.Full
+
+-- the outcome of `SimpleAigOpt`, and of all rules, over what is looked up in the words
+abbrev pub opted : Extent → List ℕ → Cell → Outcome
+opted x ws c = simpleAigOpt (findCell findNewCell (rewriterIn x ws)) c
+
+abbrev pub ruled : Extent → List ℕ → Cell → Outcome
+ruled x ws c = rewriting.rules findNewCell (rewriterIn x ws) c
 
 -- the slots that the definition has taken in the end
 abbrev pub slotsAfter : rewriting.Result → ℕ
@@ -79,19 +116,6 @@ SettledIn x ws r n = Settled (r .ticket) (rewriterIn x ws .stamps) n
 pub record Ready (x : Extent) (ws : List ℕ) (c : Cell) : Type 0 where
   pub running : Running x ws
   pub gate : GateOf (SettledIn x ws running) c
-
-pub record ReadyFor (x : Extent) (ws : List ℕ) (o : Outcome) : Type 0 where
-  pub running : Running x ws
-  pub good : GoodOutcome (GateOf (SettledIn x ws running)) (SettledIn x ws running) o
-
--- the number that falls within the cycle, of an outcome: by the weight of the cell that it adds
-abbrev pub performMeasure : List ℕ → Outcome → ℕ
-performMeasure ts None = 0
-performMeasure ts (Value n) = 0
-performMeasure ts (Form c) = 0
-performMeasure ts (Add c) = 8 * weight ts c + 5
-performMeasure ts (NotOf c) = 8 * weight ts c + 5
-performMeasure ts (AddNotOf c) = 8 * weight ts c + 5
 
 -- the contracts: with any bound above the weight
 pub record Performs (x : Extent) (ws ws′ : List ℕ) (o : Outcome) (p : Processed) : Type 0 where

@@ -1,13 +1,15 @@
 -- The loops over the slots: stamps cleared, and nets of added slots that stand for themselves. Assumes nothing.
-use mathlib.Core.Path.{_≡_, refl, sym, _∙_, subst}
+use mathlib.Core.Path.{_≡_, refl, sym, ap, _∙_, subst}
 use mathlib.Core.List.{List}
 use Prim.Native.Nat.{ℕ, _+_, _≤_, _<_}
 use native.Mathlib.Omega.{arith}
 use native.Mathlib.Decide.{decLt}
 use lib.ListN.{length, getD, set}
 use lib.Seq.{getD-set-same, getD-set-other}
+use Rattle.value.specs.declared.Net.{Net}
 use Rattle.netlist.specs.Areas.{Within}
 use Rattle.netlist.proofs.Frames.{within-none, within-then, within-set}
+use Rattle.design.specs.Queue.{netIn}
 use Rattle.rewriter_state.specs.declared.Extent.{Extent}
 use Rattle.rewriter_state.specs.Words.{Held, ClearsStamps, Stands}
 
@@ -65,11 +67,12 @@ standing-none x ws h = record {
 }
 
 module _ (x : Extent) (ws₀ ws : List ℕ) (s : ℕ) (g : Standing x ws₀ ws s) where
-  pub standing-more : (ws′ : List ℕ) → s < x .slots → ws′ ≡ set ws (6144 + s) (s + 2) → Standing x ws₀ ws′ (s + 1)
-  standing-more ws′ l e =
+  pub standing-more : (ws′ : List ℕ) (y : Net) → s < x .slots → y ≡ netIn s → ws′ ≡ set ws (6144 + s) (y .0) → Standing x ws₀ ws′ (s + 1)
+  standing-more ws′ y l y-is e =
       let fit : x .slots ≤ 1024 = g .held .fit in
       let from : x .tickets ≤ s = g .from in
-      subst (λ (vs : List ℕ). Standing x ws₀ vs (s + 1)) (sym e) (record {
+      let f : ws′ ≡ set ws (6144 + s) (s + 2) = e ∙ ap (λ (z : Net). set ws (6144 + s) (z .0)) y-is in
+      subst (λ (vs : List ℕ). Standing x ws₀ vs (s + 1)) (sym f) (record {
         from = omega arith;
         upto = omega arith;
         held = g .held;

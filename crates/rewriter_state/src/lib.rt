@@ -172,7 +172,8 @@ pub fn stand(work: &mut [u32], x: Extent)
 {
     let mut s = x.tickets;
     while s < x.slots {
-        cell::put(work, REPLACED + (s as usize), s + 2);
+        let own = Net::from_cell_index(Slot(s));
+        cell::put(work, REPLACED + (s as usize), own.0);
         s += 1;
     }
 }

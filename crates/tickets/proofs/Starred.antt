@@ -1,5 +1,10 @@
--- The starred tickets and the corners, computed from the definitions by the checker. Assumes nothing.
-use mathlib.Core.Path.{_≡_, refl}
+-- The starred tickets, the corners, the levels, the calls that are turned away and the wrong programs, computed from the definitions by the checker. Assumes
+-- nothing.
+use mathlib.Core.Path.{_≡_, refl, ap}
+use mathlib.Core.List.{List, _∷_}
+use Prim.Native.Nat.{ℕ}
+use native.Mathlib.Omega.{arith}
+use lib.ListN.{getD}
 use Rattle.logic.specs.Levels.{levelOf, eqLevel}
 use Rattle.value.specs.Value.{eqNet, leNet, driver, isAlways, canonicalize, notControl, eqControl, leControl}
 use Rattle.cell.specs.Bytes.{word16, word32, bytes16, bytes32}
@@ -23,16 +28,59 @@ use Rattle.aig.specs.Aig.{ifNot, ifAig, ifXor, notRule, aigOfNot, andAnd, andWi
 use Rattle.rewrite.specs.Rewriter.{stamp, findCell, entered, finished, weight}
 use Rattle.rewrite.specs.Rewrite.{rules, process, processCell, addCell, runItem, runItems, run, rewrite}
 use Rattle.levels.specs.Evaluate.{netLevel, cellLevel, roundOf, levelsIn, levels, givenLevels, inputSlots, outputSlots, outputLevels}
+use Rattle.calls.specs.Work.{wiped, cleared}
+use Rattle.calls.specs.Answers.{Told}
 use Rattle.calls.specs.Calls.{put, checkVerdict, checkAnswer, compactBytes, compactVerdict, compactAnswer, compactReply, mergeBytes, mergeVerdict, mergeAnswer, mergeReply, rewriteRun, rewriteBytes, rewriteStages, rewriteVerdict, rewriteAnswer, rewriteReply, levelBytes, stimulusStages, levelVerdict, levelAnswer, levelReply}
-use Rattle.tickets.specs.Starred.{lines, said, computed, printed, starred, AsPrinted}
+use Rattle.tickets.specs.Starred.{lines, called, computed, printed, starred, AsPrinted}
 use Rattle.tickets.specs.Corners.{corners}
+use Rattle.tickets.specs.Levels.{tables}
+use Rattle.tickets.specs.Refused.{given, wanted, trials, AnsweredAsPrinted, NumberedAsPrinted, ClearedAsPrinted}
+use Rattle.tickets.specs.Wrong.{Fails, WrongFail}
 
-as-printed : AsPrinted starred × AsPrinted corners
-unfolding levelOf eqLevel eqNet leNet driver isAlways canonicalize notControl eqControl leControl word16 word32 bytes16 bytes32 kindOf fieldOf useOf isOperand isCombEdge edgeAt recordAt recordsOf bytesOf cellOf cellRecord tabulate stepBack reachingIn reaches onLoop firstOf slotBySlot unknownKind reservedField follows outOfSequence bitOutOfSequence undrivenField undrivenOperand recordStages loopStages netlistStages checkStages gateCount visit visitMut hasEffects netlistOf encode ticketOf those anyOf joined sources outputOf iterCells cellDeps Netlist.run each down walk walkFrom bitDeps topoSort iterCellsTopo unchanged followed mapNetNew findNewCell applied didChange eqRecord eqCell seek keep keptSlots countKept netMap compact keyOf findOrInsert mergeCell mergeCells merging merge _orElse_ fromControl normalize ifNot ifAig ifXor notRule aigOfNot andAnd andWith aigOfAnd nandAnd xorOf nandNand nandWith aigOfNand xorAnd xorWith aigOfXor aigOrder aigRule andXor xorXor xorOrder xorRule simpleAigOpt stamp findCell entered finished weight rules process processCell addCell runItem runItems run rewrite netLevel cellLevel roundOf levelsIn levels givenLevels inputSlots outputSlots outputLevels put checkVerdict checkAnswer compactBytes compactVerdict compactAnswer compactReply mergeBytes mergeVerdict mergeAnswer mergeReply rewriteRun rewriteBytes rewriteStages rewriteVerdict rewriteAnswer rewriteReply levelBytes stimulusStages levelVerdict levelAnswer levelReply lines said computed printed starred corners AsPrinted
-as-printed = (refl, refl)
+-- an answer's number by place, then the bytes of the reply: 0 number, 2 count, 3 gate count
+abbrev at : ℕ → Told × List ℕ → ℕ
+at i x = getD (x .0 .number ∷ x .0 .place ∷ x .0 .count ∷ x .0 .extra ∷ x .1) i 0
+
+as-printed : AsPrinted starred × AsPrinted corners × AsPrinted tables × AnsweredAsPrinted × WrongFail
+unfolding levelOf eqLevel eqNet leNet driver isAlways canonicalize notControl eqControl leControl word16 word32 bytes16 bytes32 kindOf fieldOf useOf isOperand isCombEdge edgeAt recordAt recordsOf bytesOf cellOf cellRecord tabulate stepBack reachingIn reaches onLoop firstOf slotBySlot unknownKind reservedField follows outOfSequence bitOutOfSequence undrivenField undrivenOperand recordStages loopStages netlistStages checkStages gateCount visit visitMut hasEffects netlistOf encode ticketOf those anyOf joined sources outputOf iterCells cellDeps Netlist.run each down walk walkFrom bitDeps topoSort iterCellsTopo unchanged followed mapNetNew findNewCell applied didChange eqRecord eqCell seek keep keptSlots countKept netMap compact keyOf findOrInsert mergeCell mergeCells merging merge _orElse_ fromControl normalize ifNot ifAig ifXor notRule aigOfNot andAnd andWith aigOfAnd nandAnd xorOf nandNand nandWith aigOfNand xorAnd xorWith aigOfXor aigOrder aigRule andXor xorXor xorOrder xorRule simpleAigOpt stamp findCell entered finished weight rules process processCell addCell runItem runItems run rewrite netLevel cellLevel roundOf levelsIn levels givenLevels inputSlots outputSlots outputLevels put checkVerdict checkAnswer compactBytes compactVerdict compactAnswer compactReply mergeBytes mergeVerdict mergeAnswer mergeReply rewriteRun rewriteBytes rewriteStages rewriteVerdict rewriteAnswer rewriteReply levelBytes stimulusStages levelVerdict levelAnswer levelReply lines called computed printed starred corners tables AsPrinted given wanted trials AnsweredAsPrinted Fails WrongFail
+as-printed = (
+  refl,
+  refl,
+  refl,
+  refl,
+  (
+    λ e. let z : _≡_ {A = ℕ} 12 0 = ap (at 0) e in omega arith,
+    λ e. let z : _≡_ {A = ℕ} 64 80 = ap (at 2) e in omega arith,
+    λ e. let z : _≡_ {A = ℕ} 5 2 = ap (at 36) e in omega arith,
+    λ e. let z : _≡_ {A = ℕ} 144 128 = ap (at 2) e in omega arith,
+    λ e. let z : _≡_ {A = ℕ} 64 80 = ap (at 2) e in omega arith,
+    λ e. let z : _≡_ {A = ℕ} 4 1 = ap (at 3) e in omega arith,
+    λ e. let z : _≡_ {A = ℕ} 128 144 = ap (at 2) e in omega arith,
+    λ e. let z : _≡_ {A = ℕ} 1 0 = ap (at 3) e in omega arith,
+    λ e. let z : _≡_ {A = ℕ} 2 3 = ap (at 40) e in omega arith,
+  ),
+)
 
 pub starred-as-printed : AsPrinted starred
 starred-as-printed = as-printed .0
 
 pub corners-as-printed : AsPrinted corners
 corners-as-printed = as-printed .1
+
+pub levels-as-printed : AsPrinted tables
+levels-as-printed = as-printed .2
+
+pub answered-as-printed : AnsweredAsPrinted
+answered-as-printed = as-printed .3
+
+pub wrong-fail : WrongFail
+wrong-fail = as-printed .4
+
+-- what needs no computing of tickets
+pub numbered-as-printed : NumberedAsPrinted
+unfolding NumberedAsPrinted
+numbered-as-printed = refl
+
+pub cleared-as-printed : ClearedAsPrinted
+unfolding wiped cleared ClearedAsPrinted
+cleared-as-printed = (refl, refl)

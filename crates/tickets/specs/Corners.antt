@@ -161,4 +161,91 @@ corners =
           ∷ (2 ∷ 9 ∷ 2 ∷ 0 ∷ 3 ∷ 2 ∷ 0 ∷ [])
           ∷ (3 ∷ 2 ∷ 0 ∷ 0 ∷ 4 ∷ 9 ∷ 0 ∷ []) ∷ [],
     )
+    -- undefined is its own inverse: that both operands are the same is asked before that they are opposite
+    ∷ (
+      rewriting,
+      recordOf 9 0 0 4294967295 4294967295 0 ∷ recordOf 2 0 0 2 9 0 ∷ [],
+      (0 ∷ 0 ∷ 16 ∷ []) ∷ (0 ∷ 2 ∷ 0 ∷ 0 ∷ 4294967295 ∷ 9 ∷ 0 ∷ []) ∷ [],
+    )
+    -- where a rule applies in both operand orders, the order as written comes first
+    ∷ (
+      rewriting,
+      recordOf 1 0 0 1 0 0 ∷ recordOf 1 0 0 2 0 0 ∷ recordOf 1 0 0 3 0 0 ∷ recordOf 5 0 0 2 3 0 ∷ recordOf 5 0 0 2 4 0 ∷ recordOf 5 0 0 5 6 0 ∷ recordOf 2 0 0 7 9 0 ∷ [],
+      (0 ∷ 0 ∷ 96 ∷ [])
+          ∷ (0 ∷ 1 ∷ 0 ∷ 0 ∷ 1 ∷ 0 ∷ 0 ∷ [])
+          ∷ (1 ∷ 1 ∷ 0 ∷ 0 ∷ 2 ∷ 0 ∷ 0 ∷ [])
+          ∷ (2 ∷ 1 ∷ 0 ∷ 0 ∷ 3 ∷ 0 ∷ 0 ∷ [])
+          ∷ (3 ∷ 2 ∷ 0 ∷ 0 ∷ 7 ∷ 9 ∷ 0 ∷ [])
+          ∷ (4 ∷ 9 ∷ 0 ∷ 0 ∷ 2 ∷ 3 ∷ 0 ∷ [])
+          ∷ (5 ∷ 9 ∷ 0 ∷ 0 ∷ 4 ∷ 6 ∷ 0 ∷ []) ∷ [],
+    )
+    -- rules come after Normalize: the and-inverter of and(6, 5) has sorted operands before its rule is asked
+    ∷ (
+      rewriting,
+      recordOf 1 0 0 1 0 0 ∷ recordOf 1 0 0 2 0 0 ∷ recordOf 1 0 0 3 0 0 ∷ recordOf 5 0 0 2 3 0 ∷ recordOf 5 0 0 2 4 0 ∷ recordOf 5 0 0 6 5 0 ∷ recordOf 2 0 0 7 9 0 ∷ [],
+      (0 ∷ 0 ∷ 96 ∷ [])
+          ∷ (0 ∷ 1 ∷ 0 ∷ 0 ∷ 1 ∷ 0 ∷ 0 ∷ [])
+          ∷ (1 ∷ 1 ∷ 0 ∷ 0 ∷ 2 ∷ 0 ∷ 0 ∷ [])
+          ∷ (2 ∷ 1 ∷ 0 ∷ 0 ∷ 3 ∷ 0 ∷ 0 ∷ [])
+          ∷ (3 ∷ 2 ∷ 0 ∷ 0 ∷ 7 ∷ 9 ∷ 0 ∷ [])
+          ∷ (4 ∷ 9 ∷ 0 ∷ 0 ∷ 2 ∷ 3 ∷ 0 ∷ [])
+          ∷ (5 ∷ 9 ∷ 0 ∷ 0 ∷ 4 ∷ 6 ∷ 0 ∷ []) ∷ [],
+    )
+    -- a buffer is its operand, and the operands of a xor are sorted
+    ∷ (
+      rewriting,
+      recordOf 1 0 0 1 0 0 ∷ recordOf 1 0 0 2 0 0 ∷ recordOf 7 0 0 3 2 0 ∷ recordOf 3 0 0 4 0 0 ∷ recordOf 2 0 0 5 9 0 ∷ [],
+      (0 ∷ 0 ∷ 64 ∷ [])
+          ∷ (0 ∷ 1 ∷ 0 ∷ 0 ∷ 1 ∷ 0 ∷ 0 ∷ [])
+          ∷ (1 ∷ 1 ∷ 0 ∷ 0 ∷ 2 ∷ 0 ∷ 0 ∷ [])
+          ∷ (2 ∷ 2 ∷ 0 ∷ 0 ∷ 5 ∷ 9 ∷ 0 ∷ [])
+          ∷ (3 ∷ 7 ∷ 0 ∷ 0 ∷ 2 ∷ 3 ∷ 0 ∷ []) ∷ [],
+    )
+    -- negative control nets by index
+    ∷ (
+      rewriting,
+      recordOf 1 0 0 1 0 0 ∷ recordOf 1 0 0 2 0 0 ∷ recordOf 9 3 0 3 2 0 ∷ recordOf 2 0 0 4 9 0 ∷ [],
+      (0 ∷ 0 ∷ 64 ∷ [])
+          ∷ (0 ∷ 1 ∷ 0 ∷ 0 ∷ 1 ∷ 0 ∷ 0 ∷ [])
+          ∷ (1 ∷ 1 ∷ 0 ∷ 0 ∷ 2 ∷ 0 ∷ 0 ∷ [])
+          ∷ (2 ∷ 9 ∷ 3 ∷ 0 ∷ 2 ∷ 3 ∷ 0 ∷ [])
+          ∷ (3 ∷ 2 ∷ 0 ∷ 0 ∷ 4 ∷ 9 ∷ 0 ∷ []) ∷ [],
+    )
+    -- an and-inverter is cached in the form that it has in its slot
+    ∷ (
+      rewriting,
+      recordOf 1 0 0 1 0 0 ∷ recordOf 1 0 0 2 0 0 ∷ recordOf 9 0 0 3 2 0 ∷ recordOf 5 0 0 2 3 0 ∷ recordOf 2 0 0 4 9 0 ∷ recordOf 2 0 0 5 10 0 ∷ [],
+      (0 ∷ 0 ∷ 80 ∷ [])
+          ∷ (0 ∷ 1 ∷ 0 ∷ 0 ∷ 1 ∷ 0 ∷ 0 ∷ [])
+          ∷ (1 ∷ 1 ∷ 0 ∷ 0 ∷ 2 ∷ 0 ∷ 0 ∷ [])
+          ∷ (2 ∷ 9 ∷ 0 ∷ 0 ∷ 2 ∷ 3 ∷ 0 ∷ [])
+          ∷ (3 ∷ 2 ∷ 0 ∷ 0 ∷ 4 ∷ 9 ∷ 0 ∷ [])
+          ∷ (4 ∷ 2 ∷ 0 ∷ 0 ∷ 4 ∷ 10 ∷ 0 ∷ []) ∷ [],
+    )
+    -- or, xor and and-inverter are found with their operands exchanged, flags with them
+    ∷ (
+      merging,
+      recordOf 1 0 0 1 0 0 ∷ recordOf 1 0 0 2 0 0 ∷ recordOf 6 0 0 2 3 0 ∷ recordOf 6 0 0 3 2 0 ∷ recordOf 7 0 0 2 3 0 ∷ recordOf 7 0 0 3 2 0 ∷ recordOf 9 2 0 2 3 0 ∷ recordOf 9 1 0 3 2 0 ∷ recordOf 9 1 0 2 3 0 ∷ recordOf 2 0 0 5 9 0 ∷ recordOf 2 0 0 7 10 0 ∷ recordOf 2 0 0 9 11 0 ∷ recordOf 2 0 0 10 12 0 ∷ [],
+      (0 ∷ 0 ∷ 160 ∷ 1 ∷ [])
+          ∷ (0 ∷ 1 ∷ 0 ∷ 0 ∷ 1 ∷ 0 ∷ 0 ∷ [])
+          ∷ (1 ∷ 1 ∷ 0 ∷ 0 ∷ 2 ∷ 0 ∷ 0 ∷ [])
+          ∷ (2 ∷ 6 ∷ 0 ∷ 0 ∷ 2 ∷ 3 ∷ 0 ∷ [])
+          ∷ (3 ∷ 7 ∷ 0 ∷ 0 ∷ 2 ∷ 3 ∷ 0 ∷ [])
+          ∷ (4 ∷ 9 ∷ 2 ∷ 0 ∷ 2 ∷ 3 ∷ 0 ∷ [])
+          ∷ (5 ∷ 9 ∷ 1 ∷ 0 ∷ 2 ∷ 3 ∷ 0 ∷ [])
+          ∷ (6 ∷ 2 ∷ 0 ∷ 0 ∷ 4 ∷ 9 ∷ 0 ∷ [])
+          ∷ (7 ∷ 2 ∷ 0 ∷ 0 ∷ 5 ∷ 10 ∷ 0 ∷ [])
+          ∷ (8 ∷ 2 ∷ 0 ∷ 0 ∷ 6 ∷ 11 ∷ 0 ∷ [])
+          ∷ (9 ∷ 2 ∷ 0 ∷ 0 ∷ 7 ∷ 12 ∷ 0 ∷ []) ∷ [],
+    )
+    -- inputs and outputs are never merged, not even where their labels repeat
+    ∷ (
+      merging,
+      recordOf 1 0 0 1 0 0 ∷ recordOf 1 0 0 1 0 0 ∷ recordOf 2 0 0 3 9 0 ∷ recordOf 2 0 0 3 9 0 ∷ [],
+      (0 ∷ 0 ∷ 64 ∷ 0 ∷ [])
+          ∷ (0 ∷ 1 ∷ 0 ∷ 0 ∷ 1 ∷ 0 ∷ 0 ∷ [])
+          ∷ (1 ∷ 1 ∷ 0 ∷ 0 ∷ 1 ∷ 0 ∷ 0 ∷ [])
+          ∷ (2 ∷ 2 ∷ 0 ∷ 0 ∷ 3 ∷ 9 ∷ 0 ∷ [])
+          ∷ (3 ∷ 2 ∷ 0 ∷ 0 ∷ 3 ∷ 9 ∷ 0 ∷ []) ∷ [],
+    )
     ∷ []

@@ -1,2 +1,5 @@
 pub mod Starred
 pub mod Corners
+pub mod Levels
+pub mod Refused
+pub mod Wrong

@@ -26,36 +26,38 @@ unfoldable pub lines : ℕ → List Record → List (List ℕ)
 lines s [] = []
 lines s (r ∷ rs) = (s ∷ r .kind ∷ r .flags ∷ r .bit ∷ r .a ∷ r .b ∷ r .c ∷ []) ∷ lines (suc s) rs
 
--- number, place and count of an answer, then the reply up to the count
+-- a call with so many work words and this reply slice: the answer, and the reply at return; checking has no reply slice
+unfoldable pub called : Call → ℕ → List ℕ → List ℕ → Told × List ℕ
+called checking n t out = (checkFigures (checkAnswer n t), out)
+called compacting n t out = (writtenFigures (compactAnswer n t out), compactReply n t out)
+called merging n t out = (mergedFigures (mergeAnswer n t out), mergeReply n t out)
+called rewriting n t out = (writtenFigures (rewriteAnswer findNewCell n t out), rewriteReply findNewCell n t out)
+called (levels stimulus) n t out = (writtenFigures (levelAnswer n t stimulus out), levelReply n t stimulus out)
+
+-- number, place and count of an answer
 abbrev pub figuresLine : Told → List ℕ
 figuresLine a = a .number ∷ a .place ∷ a .count ∷ []
 
 abbrev pub withExtra : Told → List ℕ
 withExtra a = a .number ∷ a .place ∷ a .count ∷ a .extra ∷ []
 
-abbrev pub writtenLines : Told → List ℕ → List (List ℕ)
-writtenLines a out = figuresLine a ∷ lines 0 (recordsOf (take (a .count) out))
+-- the reply up to the count
+abbrev pub written : Told × List ℕ → List ℕ
+written a = take (a .0 .count) (a .1)
 
-abbrev pub mergedLines : Told → List ℕ → List (List ℕ)
-mergedLines a out = withExtra a ∷ lines 0 (recordsOf (take (a .count) out))
-
-abbrev pub levelLines : Told → List ℕ → List (List ℕ)
-levelLines a out = figuresLine a ∷ take (a .count) out ∷ []
-
--- what a call answers, and the reply up to its byte count
-unfoldable pub said : Call → List ℕ → List (List ℕ)
-said checking t = withExtra (checkFigures (checkAnswer words t)) ∷ []
-said compacting t = writtenLines (writtenFigures (compactAnswer words t reply)) (compactReply words t reply)
-said merging t = mergedLines (mergedFigures (mergeAnswer words t reply)) (mergeReply words t reply)
-said rewriting t = writtenLines (writtenFigures (rewriteAnswer findNewCell words t reply)) (rewriteReply findNewCell words t reply)
-said (levels stimulus) t = levelLines (writtenFigures (levelAnswer words t stimulus reply)) (levelReply words t stimulus reply)
+abbrev pub shown : Call → Told × List ℕ → List (List ℕ)
+shown checking a = withExtra (a .0) ∷ []
+shown compacting a = figuresLine (a .0) ∷ lines 0 (recordsOf (written a))
+shown merging a = withExtra (a .0) ∷ lines 0 (recordsOf (written a))
+shown rewriting a = figuresLine (a .0) ∷ lines 0 (recordsOf (written a))
+shown (levels stimulus) a = figuresLine (a .0) ∷ written a ∷ []
 
 -- a row of the table: a call, a ticket, and what is said
 abbrev pub Row : Type 0
 Row = Call × List Record × List (List ℕ)
 
 unfoldable pub computed : Row → List (List ℕ)
-computed row = said (row .0) (ticketOf (row .1))
+computed row = shown (row .0) (called (row .0) words (ticketOf (row .1)) reply)
 
 unfoldable pub printed : Row → List (List ℕ)
 printed row = row .2

@@ -1,1 +1,1 @@
-// The paper's starred tickets: there is no code here.
+// Tables of tickets and calls, computed from the definitions: there is no code here.

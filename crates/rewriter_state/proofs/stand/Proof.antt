@@ -8,6 +8,7 @@ use Rattle.rewriter_state.proofs.stand.Tie as tie
 use Rattle.rewriter_state.proofs.stand.Reads as reads
 use Rattle.rewriter_state.proofs.stand.Lts as lts
 use Rattle.cell.proofs.put.Reads as put-reads
+use Rattle.value.proofs.Net.from_cell_index.Reads as from-cell-index-reads
 
 abbrev Inv-loop : tie.InvT-loop
 Inv-loop work₀ x s₀ work s = Standing x work₀ work s
@@ -19,23 +20,23 @@ abbrev μ-loop : tie.MeasureT-loop
 loop-holds : tie.Need-loop-holds Inv-loop μ-loop
 loop-holds c = search standing-none
 
--- src/lib.rt:175:37
+-- src/lib.rt:175:13
+from-cell-index-requires : tie.Need-from-cell-index-requires Inv-loop μ-loop
+from-cell-index-requires c κs = omega arith
+
+-- src/lib.rt:176:37
 cast-put : tie.Need-cast-put Inv-loop μ-loop
 cast-put c = search needs
 
--- src/lib.rt:175:25
+-- src/lib.rt:176:25
 add-put : tie.Need-add-put Inv-loop μ-loop
 add-put c = omega arith
 
--- src/lib.rt:175:50
-add-put-2 : tie.Need-add-put-2 Inv-loop μ-loop
-add-put-2 c = omega arith
-
--- src/lib.rt:175:9
+-- src/lib.rt:176:9
 put-requires : tie.Need-put-requires Inv-loop μ-loop
 put-requires c κs = search needs
 
--- src/lib.rt:176:9
+-- src/lib.rt:177:9
 add-s : tie.Need-add-s Inv-loop μ-loop
 add-s c = omega arith
 
@@ -62,9 +63,9 @@ stand-spec =
     Inv-loop
     μ-loop
     loop-holds
+    from-cell-index-requires
     cast-put
     add-put
-    add-put-2
     put-requires
     add-s
     loop-less

@@ -7,6 +7,7 @@ use Rattle.design.proofs.queue.unchanged.Tie as tie
 use Rattle.design.proofs.queue.unchanged.Reads as reads
 use Rattle.design.proofs.queue.unchanged.Lts as lts
 use Rattle.cell.proofs.put.Reads as put-reads
+use Rattle.value.proofs.Net.from_cell_index.Reads as from-cell-index-reads
 
 abbrev Inv-loop : tie.InvT-loop
 Inv-loop work₀ n s₀ work s = Unchanging n work₀ work s
@@ -18,7 +19,7 @@ abbrev μ-loop : tie.MeasureT-loop
 loop-holds : tie.Need-loop-holds Inv-loop μ-loop
 loop-holds c = search unchanging-none
 
--- src/queue.rt:27:26
+-- src/queue.rt:27:33
 cast-put : tie.Need-cast-put Inv-loop μ-loop
 cast-put c = search needs
 
@@ -27,8 +28,8 @@ add-put : tie.Need-add-put Inv-loop μ-loop
 add-put c = omega arith
 
 -- src/queue.rt:27:46
-add-put-2 : tie.Need-add-put-2 Inv-loop μ-loop
-add-put-2 c = omega arith
+from-cell-index-requires : tie.Need-from-cell-index-requires Inv-loop μ-loop
+from-cell-index-requires c κs = omega arith
 
 -- src/queue.rt:27:9
 put-requires : tie.Need-put-requires Inv-loop μ-loop
@@ -63,7 +64,7 @@ unchanged-spec =
     loop-holds
     cast-put
     add-put
-    add-put-2
+    from-cell-index-requires
     put-requires
     add-s
     loop-less

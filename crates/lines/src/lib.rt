@@ -1,0 +1,1 @@
+// The lines that the lister prints: there is no code here.

@@ -1,4 +1,0 @@
-pub mod Ascii
-pub mod Decimal
-pub mod Lines
-pub mod Text

@@ -1,0 +1,4 @@
+pub mod Again
+pub mod Listing
+pub mod Printed
+pub mod Taken

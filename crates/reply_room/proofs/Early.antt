@@ -1,0 +1,76 @@
+-- The stages before 12 give other refusals. Assumes nothing.
+use mathlib.Core.Path.{_≡_, refl, sym, ap, _∙_, subst}
+use mathlib.Core.Bool.{Bool, true, false}
+use mathlib.Core.List.{List, [], _∷_, _++_}
+use Prim.Native.Nat.{ℕ, zero, suc, _<_}
+use native.Mathlib.Omega.{arith}
+use lib.ListN.{length}
+use Rattle.cell.specs.declared.Record.{Record}
+use Rattle.cell.specs.declared.Cell.{Cell}
+use Rattle.cell.specs.Records.{recordsOf}
+use Rattle.checking.specs.declared.Verdict.{Verdict}
+use Rattle.checking.specs.declared.Verdict.the-variants.{Pass, Refused}
+use Rattle.checking.specs.Refusals.{Stage, figures, firstOf, slotBySlot}
+use Rattle.checking.specs.Checking.{recordStages, loopStages, netlistStages, checkStages}
+use Rattle.checking.proofs.Stages.{first-refuses, first-passes, later-decides, earlier-decides}
+use Rattle.calls.specs.Calls.{stimulusStages}
+
+-- each stage of a list gives a refusal below 12
+abbrev pub Early : List Stage → Type 0
+Early [] = Unit {0}
+Early (st ∷ sts) = (figures (st .1) .number < 12) × Early sts
+
+-- a verdict is not 12
+abbrev pub Other : Verdict → Type 0
+Other Pass = Unit {0}
+Other (Refused r) = figures r .number < 12
+
+append-early : (xs ys : List Stage) → Early xs → Early ys → Early (xs ++ ys)
+append-early [] ys e f = f
+append-early (st ∷ xs) ys e f = (e .0, append-early xs ys (e .1) f)
+
+slots-early : (stages : ℕ → List Stage) → ((s : ℕ) → Early (stages s)) → (n : ℕ) → Early (slotBySlot stages n)
+unfolding slotBySlot
+slots-early stages each zero = tt
+slots-early stages each (suc n) = append-early (slotBySlot stages n) (stages n) (slots-early stages each n) (each n)
+
+first-early : (sts : List Stage) → Early sts → Other (firstOf sts)
+unfolding firstOf
+first-early [] e = tt
+first-early (st ∷ sts) e = go (first-early sts (e .1)) (st .0) refl
+  where
+    go : Other (firstOf sts) → (b : Bool) → st .0 ≡ b → Other (firstOf (st ∷ sts))
+    go rest true h = subst Other (sym (first-refuses st sts h)) (e .0)
+    go rest false h = subst Other (sym (first-passes st sts h)) rest
+
+-- stages that are early, and others behind them
+pub early-then : (xs ys : List Stage) → Early xs → (firstOf xs ≡ Pass → Other (firstOf ys)) → Other (firstOf (xs ++ ys))
+early-then xs ys e f = go (firstOf xs) refl
+  where
+    go : (v : Verdict) → firstOf xs ≡ v → Other (firstOf (xs ++ ys))
+    go Pass h = subst Other (sym (later-decides xs ys h)) (f h)
+    go (Refused r) h = subst Other (h ∙ sym (earlier-decides xs ys r h)) (first-early xs e)
+
+-- ---- the stages of the calls
+pub check-early : (words : ℕ) (t : List ℕ) → Early (checkStages words t)
+unfolding checkStages netlistStages recordStages loopStages
+check-early words t =
+    let rs : List Record = recordsOf t in (
+      omega arith,
+      (
+        omega arith,
+        (
+          omega arith,
+          append-early (slotBySlot (recordStages rs) (length rs)) (slotBySlot (loopStages rs) (length rs))
+              (slots-early (recordStages rs) (λ s. (omega arith, (omega arith, (omega arith, (omega arith, tt))))) (length rs))
+              (slots-early (loopStages rs) (λ s. (omega arith, tt)) (length rs)),
+        ),
+      ),
+    )
+
+pub stimulus-early : (cs : List Cell) (stimulus : List ℕ) → Early (stimulusStages cs stimulus)
+unfolding stimulusStages
+stimulus-early cs stimulus = (omega arith, slots-early _ (λ s. (omega arith, tt)) (length stimulus))
+
+pub both-early : (words : ℕ) (t : List ℕ) (cs : List Cell) (stimulus : List ℕ) → Early (checkStages words t ++ stimulusStages cs stimulus)
+both-early words t cs stimulus = append-early (checkStages words t) (stimulusStages cs stimulus) (check-early words t) (stimulus-early cs stimulus)

@@ -1,0 +1,1 @@
+// How long a reply holds every result: there is no code here.

@@ -1,0 +1,1 @@
+// Nothing that could stop the Rust is reached by an accepted ticket: there is no code here.
