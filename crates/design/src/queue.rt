@@ -10,7 +10,7 @@ ghost use Prim.Native.Nat.{_≤_, _<_};
 ghost use lib.ListN.{length, set};
 ghost use Rattle.value.specs.Value.{driver};
 ghost use Rattle.cell.specs.Tabulate.{tabulate};
-ghost use Rattle.netlist.specs.Areas.{Within};
+ghost use Rattle.netlist.specs.Areas.{storeWords, Within};
 ghost use Rattle.design.specs.Queue.{netIn, drivenTo, mapNetNew, eqRecord, eqCell, didChange};
 ghost use Rattle.design.specs.Fields.{renamedFields};
 ghost use Rattle.design.specs.Words.{netlistIn, replacedIn, designIn, appliedIn, Applies};
@@ -97,13 +97,26 @@ pub fn replaced_record(work: &[u32], n: u32, r: Record) -> Record
     visit::with_nets(r, a, b, c)
 }
 
+// Writes such a record into its slot. Not by `replaced_record`: what a call has just stored byte by byte would be read back whole, and that
+// waits for the stores.
+fn put_replaced(work: &mut [u32], n: u32, s: Slot, r: Record) -> Record
+    ensures { λ x. ⌜ x ≡ renamedFields (mapNetNew (replacedIn n (now (work .entry)))) r ⌝ }
+    ensures { λ x. ⌜ now (work .exit) ≡ storeWords (now (work .entry)) (s .0) x ⌝ }
+{
+    let a = map_net_new(work, n, visit::net_a(r));
+    let b = map_net_new(work, n, visit::net_b(r));
+    let c = map_net_new(work, n, Net(r.c));
+    let x = visit::with_nets(r, a, b, c);
+    netlist::put_record(work, s, x);
+    x
+}
+
 // Puts the replacements into one slot, and says whether there was one.
 fn apply_to(work: &mut [u32], n: u32, s: Slot) -> bool
     ensures { λ r. ⌜ Applies n (s .0) (now (work .entry)) (now (work .exit)) r ⌝ }
 {
     let old = visit::plain(netlist::record_in(work, s));
-    let r = replaced_record(work, n, old);
-    netlist::put_record(work, s, r);
+    let r = put_replaced(work, n, s, old);
     !record_eq(r, old)
 }
 

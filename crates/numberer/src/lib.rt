@@ -86,7 +86,7 @@ fn find_first(work: &[u32], k: u32, key: Record, x: u32) -> Found
     Found::Nothing
 }
 
-// Looks for a key.
+// Looks for a key. A few entries are looked at one by one; of many it is asked first whether any has the mix.
 pub fn find(work: &[u32], k: u32, key: Record) -> Found
     requires { ⌜ 16384 ≤ length (now work) ⌝ }
     requires { ⌜ k ≤ 1024 ⌝ }
@@ -96,8 +96,10 @@ pub fn find(work: &[u32], k: u32, key: Record) -> Found
     ensures { λ r. ⌜ r ≡ seek (numbererIn k (now (work .entry))) (cellOf key) ⌝ }
 {
     let x = mix(key);
-    if count_mix(work, k, x) == 0 {
-        return Found::Nothing;
+    if 16 < k {
+        if count_mix(work, k, x) == 0 {
+            return Found::Nothing;
+        }
     }
     find_first(work, k, key, x)
 }
