@@ -11,30 +11,13 @@ ghost use Rattle.value.specs.Value.{fromNetInvert, isPositive, isNegative, isAl
 ghost use Rattle.cell.specs.declared.Cell.the-variants.{Aig};
 ghost use Rattle.normalize.specs.declared.Outcome.the-variants.{Form};
 ghost use Rattle.normalize.specs.Outcomes.{_orElse_, given, eitherWay};
-ghost use Rattle.aig.specs.Aig.{differ as differOf, aigOfNot, andWith, aigOfAnd, nandWith, aigOfNand, aigOfXor, aigOrder, aigRule};
-
-mod and;
-mod nand;
-mod xor;
-
-fn differ(p: bool, q: bool) -> bool
-    ensures { λ r. ⌜ r ≡ differOf «p» «q» ⌝ }
-{
-    if p { !q } else { q }
-}
-
-// One is the inverse of the other.
-fn opposite(p: ControlNet, q: ControlNet) -> bool
-    ensures { λ r. ⌜ r ≡ eqControl «p» (notControl «q») ⌝ }
-{
-    value::control_eq(p, q.not())
-}
+ghost use Rattle.aig.specs.Aig.{aigOfNot, andWith, aigOfAnd, nandWith, aigOfNand, aigOfXor, aigOrder, aigRule};
 
 // a & ~a, a & 0
 fn contradicts(a: ControlNet, b: ControlNet) -> bool
     ensures { λ r. ⌜ r ≡ (eqControl a (notControl b) || isAlways b false) ⌝ }
 {
-    logic::either(opposite(a, b), b.is_always(false))
+    logic::either(aig_arms::opposite(a, b), b.is_always(false))
 }
 
 // Merges an inverter of v into the and-inverter.
@@ -55,9 +38,9 @@ fn aig_of_aig(
     ensures { λ r. ⌜ r ≡ (given (isPositive a) (eitherWay (λ aa ab. andWith «src_b» a b aa) a1 a2) orElse given (isNegative a) (eitherWay (nandWith «src_b» b) a1 a2)) ⌝ }
 {
     if a.is_positive() {
-        return and::and_with_either(src_b, a, b, a1, a2);
+        return aig_arms::and::and_with_either(src_b, a, b, a1, a2);
     }
-    nand::nand_with_either(src_b, b, a1, a2)
+    aig_arms::nand::nand_with_either(src_b, b, a1, a2)
 }
 
 // By the kind of the cell that a is of.
@@ -69,7 +52,7 @@ fn aig_of_gate(src_a: Source, src_b: Source, a: ControlNet, b: ControlNet) -> Ou
         Source::Known(c) => match c {
             Cell::Not(v) => merged(v, a, b),
             Cell::Aig(a1, a2) => aig_of_aig(src_b, a, b, a1, a2),
-            Cell::Xor(a1, a2) => xor::xor_with_either(src_b, a, b, a1, a2),
+            Cell::Xor(a1, a2) => aig_arms::xor::xor_with_either(src_b, a, b, a1, a2),
             Cell::Input(_) => Outcome::None,
             Cell::Output(_, _) => Outcome::None,
             Cell::Buf(_) => Outcome::None,

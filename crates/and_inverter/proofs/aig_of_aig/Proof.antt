@@ -4,8 +4,8 @@ use Rattle.and_inverter.proofs.aig_of_aig.Statement.{statement}
 use Rattle.and_inverter.proofs.aig_of_aig.Tie as tie
 use Rattle.and_inverter.proofs.aig_of_aig.Reads as reads
 use Rattle.and_inverter.proofs.aig_of_aig.Lts as lts
-use Rattle.and_inverter.proofs.and.and_with_either.Reads as and-with-either-reads
-use Rattle.and_inverter.proofs.nand.nand_with_either.Reads as nand-with-either-reads
+use Rattle.aig_arms.proofs.and.and_with_either.Reads as and-with-either-reads
+use Rattle.aig_arms.proofs.nand.nand_with_either.Reads as nand-with-either-reads
 use Rattle.value.proofs.ControlNet.is_positive.Reads as is-positive-reads
 
 -- src/lib.rt:57:8

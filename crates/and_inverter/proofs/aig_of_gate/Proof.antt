@@ -8,7 +8,7 @@ use Rattle.and_inverter.proofs.aig_of_gate.Reads as reads
 use Rattle.and_inverter.proofs.aig_of_gate.Lts as lts
 use Rattle.and_inverter.proofs.aig_of_aig.Reads as aig-of-aig-reads
 use Rattle.and_inverter.proofs.merged.Reads as merged-reads
-use Rattle.and_inverter.proofs.xor.xor_with_either.Reads as xor-with-either-reads
+use Rattle.aig_arms.proofs.xor.xor_with_either.Reads as xor-with-either-reads
 
 -- src/lib.rt:68:27
 enum-told : tie.Need-enum-told

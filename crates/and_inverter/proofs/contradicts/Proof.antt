@@ -3,7 +3,7 @@ use Rattle.and_inverter.proofs.contradicts.Statement.{statement}
 use Rattle.and_inverter.proofs.contradicts.Tie as tie
 use Rattle.and_inverter.proofs.contradicts.Reads as reads
 use Rattle.and_inverter.proofs.contradicts.Lts as lts
-use Rattle.and_inverter.proofs.opposite.Reads as opposite-reads
+use Rattle.aig_arms.proofs.opposite.Reads as opposite-reads
 use Rattle.logic.proofs.either.Reads as either-reads
 use Rattle.value.proofs.ControlNet.is_always.Reads as is-always-reads
 

@@ -1,0 +1,55 @@
+use Rattle.normalize.proofs.First.{held-last, failed-last}
+use Rattle.aig.proofs.Sources.{no-aig, of-aig}
+use borrow.Author.Needs.{needs}
+use Rattle.aig_arms.proofs.and.and_with_and.Statement.{statement}
+use Rattle.aig_arms.proofs.and.and_with_and.Tie as tie
+use Rattle.aig_arms.proofs.and.and_with_and.Reads as reads
+use Rattle.aig_arms.proofs.and.and_with_and.Lts as lts
+use Rattle.aig.proofs.source.aig_in.Reads as aig-in-reads
+use Rattle.aig_arms.proofs.and.and_and_either.Reads as and-and-either-reads
+use Rattle.value.proofs.ControlNet.is_positive.Reads as is-positive-reads
+
+-- src/and.rt:41:11
+aig-in-requires : tie.Need-aig-in-requires
+aig-in-requires c κs = search needs
+
+-- src/and.rt:42:25
+enum-known-b1 : tie.Need-enum-known-b1
+enum-known-b1 c = search needs
+
+-- src/and.rt:43:16
+is-positive-requires : tie.Need-is-positive-requires
+is-positive-requires c κs = search needs
+
+-- src/and.rt:44:17
+and-and-either-requires : tie.Need-and-and-either-requires
+and-and-either-requires c κs = search needs
+
+-- src/and.rt:44:17
+returns : tie.Need-returns
+returns c = search (of-aig, held-last)
+
+-- src/and.rt:48:31
+enum-told : tie.Need-enum-told
+enum-told c = search needs
+
+-- src/and.rt:38:1
+returns-2 : tie.Need-returns-2
+returns-2 c = search (of-aig, failed-last)
+
+-- src/and.rt:38:1
+returns-3 : tie.Need-returns-3
+returns-3 c = search no-aig
+
+pub and-with-and-spec : {M : Type 1} → statement M
+and-with-and-spec =
+    tie.close
+    (tie.spec
+    aig-in-requires
+    enum-known-b1
+    is-positive-requires
+    and-and-either-requires
+    returns
+    enum-told
+    returns-2
+    returns-3)

@@ -1,0 +1,32 @@
+use Rattle.normalize.proofs.First.{first, second}
+use borrow.Author.Needs.{needs}
+use Rattle.aig_arms.proofs.nand.nand_with_either.Statement.{statement}
+use Rattle.aig_arms.proofs.nand.nand_with_either.Tie as tie
+use Rattle.aig_arms.proofs.nand.nand_with_either.Reads as reads
+use Rattle.aig_arms.proofs.nand.nand_with_either.Lts as lts
+use Rattle.aig_arms.proofs.nand.nand_with.Reads as nand-with-reads
+use Rattle.normalize.proofs.applies.Reads as applies-reads
+
+-- src/nand.rt:139:9
+nand-with-requires : tie.Need-nand-with-requires
+nand-with-requires c κs = search needs
+
+-- src/nand.rt:140:8
+applies-requires : tie.Need-applies-requires
+applies-requires c κs = search needs
+
+-- src/nand.rt:141:9
+returns : tie.Need-returns
+returns c = search first
+
+-- src/nand.rt:143:5
+nand-with-requires-2 : tie.Need-nand-with-requires-2
+nand-with-requires-2 c κs = search needs
+
+-- src/nand.rt:136:1
+returns-2 : tie.Need-returns-2
+returns-2 c = search second
+
+pub nand-with-either-spec : {M : Type 1} → statement M
+nand-with-either-spec =
+    tie.close (tie.spec nand-with-requires applies-requires returns nand-with-requires-2 returns-2)
