@@ -1,4 +1,4 @@
--- Laws of the kind table and of stores of bytes. Assumes nothing.
+-- Laws of stores of bytes. Assumes nothing.
 use mathlib.Core.Path.{_≡_, refl, sym, ap, ap₂, _∙_, subst}
 use mathlib.Core.Bool.{Bool, true, false, _&&_}
 use mathlib.Core.List.{List, [], _∷_, _++_}
@@ -10,25 +10,8 @@ use lib.ListN.{length, getD, set, List·getD-eq-default}
 use lib.Dec.{T, leb, leb→le}
 use lib.Seq.{sets}
 use Rattle.cell.specs.declared.Record.{Record}
-use Rattle.cell.specs.declared.Kind.{Kind}
 use Rattle.cell.specs.Bytes.{bytes16, bytes32, store16, store32}
 use Rattle.cell.specs.Records.{bytesOf}
-use Rattle.cell.specs.Kinds.{kindTable, kindOf, unknownRow}
-
-above : (m k : ℕ) → m ≤ k → (k ≡ m → ⊥) → m + 1 ≤ k
-above m k h n = omega arith
-
-pub kind-none : (k : ℕ) → (k ≡ 1 → ⊥) → (k ≡ 2 → ⊥) → (k ≡ 3 → ⊥) → (k ≡ 4 → ⊥) → (k ≡ 5 → ⊥) → (k ≡ 6 → ⊥) → (k ≡ 7 → ⊥) → (k ≡ 8 → ⊥) → (k ≡ 9 → ⊥)
-    → unknownRow ≡ kindOf k
-unfolding kindOf
-kind-none k n1 n2 n3 n4 n5 n6 n7 n8 n9 = go (decLt k 1)
-  where
-    go : Dec (k < 1) → unknownRow ≡ getD kindTable k unknownRow
-    go (yes h) = let e : k ≡ 0 = omega arith in rw e
-    go (no h) =
-        let one : 1 ≤ k = omega arith in
-        sym (List·getD-eq-default kindTable unknownRow
-        (above 9 k (above 8 k (above 7 k (above 6 k (above 5 k (above 4 k (above 3 k (above 2 k (above 1 k one n1) n2) n3) n4) n5) n6) n7) n8) n9))
 
 -- a run of stores in two parts
 pub sets-append : (l : List ℕ) (i : ℕ) (xs ys : List ℕ) → sets l i (xs ++ ys) ≡ sets (sets l i xs) (i + length xs) ys
@@ -75,27 +58,3 @@ storeRecord-is l i r =
     rw (store32-is, store32-is, store32-is, store16-is)
     (store-fields (set (set l i (r .kind)) (i + 1) (r .flags)) i r
     ∙ ap₂ (λ (j k : ℕ). sets (set (set l i (r .kind)) j (r .flags)) k (bytes16 (r .bit) ++ (bytes32 (r .a) ++ (bytes32 (r .b) ++ bytes32 (r .c))))) (add-one i) two)
-
--- a rule of the kind table: what a test finds in every row holds of every kind number
-module _ (P : Kind → Bool) where
-  unfoldable pub everyRow : List Kind → Bool
-  everyRow [] = P unknownRow
-  everyRow (k ∷ ks) = let rest = everyRow ks in P k && rest
-
-  row-passes : (ks : List Kind) (i : ℕ) → T (everyRow ks) → T (P (getD ks i unknownRow))
-  unfolding everyRow
-  row-passes [] i h = h
-  row-passes (k ∷ ks) i h = go (λ j m. row-passes ks j m) (P k) refl i h
-    where
-      go : ((j : ℕ) → T (everyRow ks) → T (P (getD ks j unknownRow))) → (b : Bool) → P k ≡ b → (i : ℕ) → T (b && everyRow ks) → T (P (getD (k ∷ ks) i unknownRow))
-      go rec true e zero m = subst T (sym e) tt
-      go rec true e (suc i) m = rec i m
-      go rec false e i m = absurd m
-
-  pub every-kind : T (everyRow kindTable) → (k : ℕ) → T (P (kindOf k))
-  unfolding kindOf
-  every-kind h k = row-passes kindTable k h
-
-pub gates-one : (k : ℕ) → kindOf k .gates ≤ 1
-unfolding everyRow
-gates-one k = leb→le (kindOf k .gates) 1 (every-kind (λ r. leb (r .gates) 1) tt k)

@@ -11,12 +11,12 @@ use Rattle.value.specs.declared.Net.{Net}
 use Rattle.value.specs.declared.ControlNet.{ControlNet}
 use Rattle.value.specs.declared.ControlNet.the-variants.{Pos, Neg}
 use Rattle.cell.specs.declared.Record.{Record}
-use Rattle.cell.specs.declared.Use.{Use}
-use Rattle.cell.specs.declared.Use.the-variants.{Unused, Label, Operand}
+use Rattle.kinds.specs.declared.Use.{Use}
+use Rattle.kinds.specs.declared.Use.the-variants.{Unused, Label, Operand}
 use Rattle.cell.specs.declared.Cell.{Cell}
 use Rattle.cell.specs.declared.Cell.the-variants.{Input, Output, Buf, Not, And, Or, Xor, Mux, Aig}
 use Rattle.cell.specs.Bytes.{word16, word32, bytes16, bytes32}
-use Rattle.cell.specs.Kinds.{kindOf}
+use Rattle.kinds.specs.Kinds.{kindOf}
 use Rattle.cell.specs.Records.{recordOf, recordAt, bytesOf, cellOf, cellRecord}
 
 -- cell -> record -> cell

@@ -1,5 +1,5 @@
 pub mod Bytes
 pub mod Limits
-pub mod Kinds
+pub mod Operands
 pub mod Records
 pub mod Tabulate

@@ -10,7 +10,7 @@ ghost use Prim.Native.Nat.{_+_, _*_, _/_, _≤_, _<_};
 ghost use lib.ListN.{length, getD, set};
 ghost use lib.Seq.{sets};
 ghost use Rattle.cell.specs.Bytes.{word16, word32, store16, store32};
-ghost use Rattle.cell.specs.Kinds.{rowOf, kindOf, fieldOf, useOf, isOperandUse, isOperand, isCombEdge, edgeOf, edgeAt};
+ghost use Rattle.cell.specs.Operands.{fieldOf, isOperand, isCombEdge, edgeOf, edgeAt};
 ghost use Rattle.cell.specs.Records.{recordAt, bytesOf, recordOf, flagsOf, cellOf, cellRecord};
 
 // The 16 bytes of a slot, field by field.
@@ -21,28 +21,6 @@ pub struct Record {
     pub a: u32,
     pub b: u32,
     pub c: u32,
-}
-
-// What a kind keeps in a field: nothing (the field is 0), a label, or an operand, which is a net.
-pub enum Use {
-    Unused,
-    Label,
-    Operand,
-}
-
-// A row of the kind table.
-pub struct Kind {
-    pub known: bool,
-    pub a: Use,
-    pub b: Use,
-    pub c: Use,
-    // The largest flags byte.
-    pub flags: u8,
-    pub one_bit: bool,
-    // Field a is the same in all bits of a cell.
-    pub common_a: bool,
-    // What a record adds to the gate count.
-    pub gates: u32,
 }
 
 // Where an operand leads: to a slot, or nowhere for a constant or a field that is no such operand.
@@ -237,48 +215,6 @@ pub fn write_record(reply: &mut [u8], s: Slot, r: Record)
     }
 }
 
-fn row(a: Use, b: Use, c: Use, flags: u8, one_bit: bool, common_a: bool, gates: u32) -> Kind
-    ensures { λ r. ⌜ r ≡ rowOf a b c flags «one_bit» «common_a» gates ⌝ }
-{
-    Kind {
-        known: true,
-        a,
-        b,
-        c,
-        flags,
-        one_bit,
-        common_a,
-        gates,
-    }
-}
-
-// The kind table.
-pub fn kind_of(kind: u8) -> Kind
-    ensures { λ r. ⌜ r ≡ kindOf kind ⌝ }
-{
-    match kind {
-        1 => row(Use::Label, Use::Unused, Use::Unused, 0, false, true, 0),
-        2 => row(Use::Operand, Use::Label, Use::Unused, 0, true, false, 0),
-        3 => row(Use::Operand, Use::Unused, Use::Unused, 0, false, false, 1),
-        4 => row(Use::Operand, Use::Unused, Use::Unused, 0, false, false, 1),
-        5 => row(Use::Operand, Use::Operand, Use::Unused, 0, false, false, 1),
-        6 => row(Use::Operand, Use::Operand, Use::Unused, 0, false, false, 1),
-        7 => row(Use::Operand, Use::Operand, Use::Unused, 0, false, false, 1),
-        8 => row(Use::Operand, Use::Operand, Use::Operand, 0, false, true, 1),
-        9 => row(Use::Operand, Use::Operand, Use::Unused, 3, true, false, 1),
-        _ => Kind {
-            known: false,
-            a: Use::Unused,
-            b: Use::Unused,
-            c: Use::Unused,
-            flags: 0,
-            one_bit: false,
-            common_a: false,
-            gates: 0,
-        },
-    }
-}
-
 // The fields by number: 1 is a, 2 is b, 3 is c.
 pub fn field(r: Record, f: u32) -> u32
     ensures { λ x. ⌜ x ≡ fieldOf r f ⌝ }
@@ -291,32 +227,11 @@ pub fn field(r: Record, f: u32) -> u32
     }
 }
 
-pub fn use_of(k: Kind, f: u32) -> Use
-    ensures { λ r. ⌜ r ≡ useOf k f ⌝ }
-{
-    match f {
-        1 => k.a,
-        2 => k.b,
-        3 => k.c,
-        _ => Use::Unused,
-    }
-}
-
-fn is_operand_use(u: Use) -> bool
-    ensures { λ r. ⌜ r ≡ isOperandUse u ⌝ }
-{
-    match u {
-        Use::Unused => false,
-        Use::Label => false,
-        Use::Operand => true,
-    }
-}
-
 // Whether a field holds a net.
 pub fn is_operand(r: Record, f: u32) -> bool
     ensures { λ x. ⌜ x ≡ isOperand r f ⌝ }
 {
-    is_operand_use(use_of(kind_of(r.kind), f))
+    kinds::is_operand_use(kinds::use_of(kinds::kind_of(r.kind), f))
 }
 
 // Whether the record's level follows from that of the net in a field.

@@ -16,7 +16,7 @@ use Rattle.value.specs.Value.{netAt, slotAt, driver}
 use Rattle.cell.specs.declared.Record.{Record}
 use Rattle.cell.specs.declared.Edge.{Edge}
 use Rattle.cell.specs.declared.Edge.the-variants.{To, Nowhere}
-use Rattle.cell.specs.Kinds.{fieldOf, isOperand, isCombEdge, edgeOf, edgeAt}
+use Rattle.cell.specs.Operands.{fieldOf, isOperand, isCombEdge, edgeOf, edgeAt}
 use Rattle.cell.specs.Records.{recordsOf, recordIn}
 use Rattle.cell.proofs.Lists.{records-length}
 use Rattle.loops.specs.declared.Found.{Found}

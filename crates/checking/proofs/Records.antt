@@ -12,12 +12,13 @@ use Rattle.value.specs.declared.Slot.{Slot}
 use Rattle.value.specs.declared.Driver.{Driver}
 use Rattle.value.specs.declared.Driver.the-variants as driven
 use Rattle.cell.specs.declared.Record.{Record}
-use Rattle.cell.specs.declared.Kind.{Kind}
+use Rattle.kinds.specs.declared.Kind.{Kind}
 use Rattle.value.specs.Value.{netAt, driver}
-use Rattle.cell.specs.Kinds.{kindOf, fieldOf, isOperand}
+use Rattle.kinds.specs.Kinds.{kindOf}
+use Rattle.cell.specs.Operands.{fieldOf, isOperand}
 use Rattle.cell.specs.Tabulate.{tabulate}
 use Rattle.cell.specs.Records.{recordAt, recordsOf, recordIn}
-use Rattle.cell.proofs.Laws.{gates-one}
+use Rattle.kinds.proofs.Laws.{gates-one}
 use Rattle.cell.proofs.Lists.{records-length, records-at}
 use Rattle.checking.specs.declared.Refusal.{Refusal}
 use Rattle.checking.specs.declared.Refusal.the-variants.{UnknownKind, ReservedField, BitOutOfSequence, UndrivenOperand}

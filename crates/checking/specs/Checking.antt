@@ -8,10 +8,11 @@ use Rattle.value.specs.declared.Driver.{Driver}
 use Rattle.value.specs.declared.Driver.the-variants as driven
 use Rattle.value.specs.Value.{netAt, slotAt, driver}
 use Rattle.cell.specs.declared.Record.{Record}
-use Rattle.cell.specs.declared.Use.{Use}
-use Rattle.cell.specs.declared.Use.the-variants.{Unused, Label, Operand}
+use Rattle.kinds.specs.declared.Use.{Use}
+use Rattle.kinds.specs.declared.Use.the-variants.{Unused, Label, Operand}
 use Rattle.cell.specs.Limits.{workWords, maxRecords}
-use Rattle.cell.specs.Kinds.{kindOf, fieldOf, isOperand}
+use Rattle.kinds.specs.Kinds.{kindOf}
+use Rattle.cell.specs.Operands.{fieldOf, isOperand}
 use Rattle.cell.specs.Records.{recordsOf, recordIn}
 use Rattle.loops.specs.Reach.{onLoop}
 use Rattle.checking.specs.declared.Refusal.the-variants.{ShortWork, PartialRecord, TooManyRecords, UnknownKind, ReservedField, BitOutOfSequence, UndrivenOperand, Loop}

@@ -1,6 +1,6 @@
 // Checking: refusals 1 to 8 of the paper's table, and the refusals of every call as one type.
 use cell::Record;
-use cell::Use;
+use kinds::Use;
 use loops::Found;
 use value::Driver;
 use value::Net;
@@ -69,7 +69,7 @@ pub fn figures_of(r: Refusal) -> Figures
 fn unknown_kind(r: Record) -> bool
     ensures { λ x. ⌜ x ≡ unknownKind r ⌝ }
 {
-    !cell::kind_of(r.kind).known
+    !kinds::kind_of(r.kind).known
 }
 
 fn unused_not_zero(u: Use, x: u32) -> bool
@@ -85,7 +85,7 @@ fn unused_not_zero(u: Use, x: u32) -> bool
 fn reserved_field(r: Record) -> bool
     ensures { λ x. ⌜ x ≡ reservedField r ⌝ }
 {
-    let k = cell::kind_of(r.kind);
+    let k = kinds::kind_of(r.kind);
     let a = k.a;
     let b = k.b;
     let c = k.c;
@@ -103,7 +103,7 @@ fn follows(p: Record, r: Record) -> bool
     ensures { λ x. ⌜ x ≡ followsOf p r ⌝ }
 {
     let next = (p.bit as u32) + 1;
-    let common = cell::kind_of(r.kind).common_a;
+    let common = kinds::kind_of(r.kind).common_a;
     logic::both(
         logic::both(p.kind == r.kind, next == (r.bit as u32)),
         logic::either(!common, p.a == r.a),
@@ -116,7 +116,7 @@ fn out_of_sequence(s: Slot, p: Record, r: Record) -> bool
     if r.bit == 0 {
         return false;
     }
-    let one_bit = cell::kind_of(r.kind).one_bit;
+    let one_bit = kinds::kind_of(r.kind).one_bit;
     logic::either(one_bit, logic::either(s.0 == 0, !follows(p, r)))
 }
 
@@ -254,7 +254,7 @@ pub fn gate_count(t: &[u8], n: u32) -> u32
     let mut s: u32 = 0;
     let mut sum: u32 = 0;
     while s < n {
-        sum += cell::kind_of(cell::kind_at(t, Slot(s))).gates;
+        sum += kinds::kind_of(cell::kind_at(t, Slot(s))).gates;
         s += 1;
     }
     sum

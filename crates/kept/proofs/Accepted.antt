@@ -8,10 +8,10 @@ use lib.Dec.{eqb}
 use lib.ListN.{length, length-map}
 use borrow.Author.Tests.{eqb-true, ltb-false, not-false}
 use Rattle.cell.specs.declared.Record.{Record}
-use Rattle.cell.specs.declared.Use.{Use}
-use Rattle.cell.specs.declared.Use.the-variants.{Unused, Label, Operand}
+use Rattle.kinds.specs.declared.Use.{Use}
+use Rattle.kinds.specs.declared.Use.the-variants.{Unused, Label, Operand}
 use Rattle.cell.specs.declared.Cell.the-variants.{Input}
-use Rattle.cell.specs.Kinds.{kindOf}
+use Rattle.kinds.specs.Kinds.{kindOf}
 use Rattle.cell.specs.Records.{recordOf, recordIn, cellOf, cellRecord}
 use Rattle.cell.proofs.RoundTrips.{ZeroIf, WellFormed, record-back}
 use Rattle.loops.proofs.Rank.{rank}

@@ -8,7 +8,8 @@ use Rattle.logic.specs.Levels.{levelOf, eqLevel}
 use Rattle.value.specs.Value.{eqNet, driver}
 use Rattle.cell.specs.declared.Record.{Record}
 use Rattle.cell.specs.Bytes.{word16, word32, bytes16, bytes32}
-use Rattle.cell.specs.Kinds.{kindOf, fieldOf, useOf, isOperand, isCombEdge, edgeAt}
+use Rattle.kinds.specs.Kinds.{kindOf, useOf}
+use Rattle.cell.specs.Operands.{fieldOf, isOperand, isCombEdge, edgeAt}
 use Rattle.cell.specs.Records.{recordOf, recordAt, recordsOf, bytesOf, cellOf}
 use Rattle.cell.specs.Tabulate.{tabulate}
 use Rattle.loops.specs.Reach.{stepBack, reachingIn, reaches, onLoop}

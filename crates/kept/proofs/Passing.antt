@@ -15,7 +15,8 @@ use Rattle.value.specs.Value.{netAt, driver}
 use Rattle.cell.specs.declared.Record.{Record}
 use Rattle.cell.specs.declared.Cell.{Cell}
 use Rattle.cell.specs.declared.Cell.the-variants.{Input, Output, Buf, Not, And, Or, Xor, Mux, Aig}
-use Rattle.cell.specs.Kinds.{kindOf, fieldOf, isOperand}
+use Rattle.kinds.specs.Kinds.{kindOf}
+use Rattle.cell.specs.Operands.{fieldOf, isOperand}
 use Rattle.cell.specs.Records.{recordOf, recordIn, cellRecord}
 use Rattle.cell.proofs.Lists.{tabulate-length, tabulate-at}
 use Rattle.loops.specs.Reach.{OnLoop}

@@ -8,7 +8,7 @@ use lib.ListN.{length, length-map}
 use Rattle.cell.specs.declared.Record.{Record}
 use Rattle.cell.specs.declared.Cell.{Cell}
 use Rattle.cell.specs.declared.Cell.the-variants.{Input}
-use Rattle.cell.specs.Kinds.{edgeAt}
+use Rattle.cell.specs.Operands.{edgeAt}
 use Rattle.cell.specs.Records.{recordOf, recordIn, cellRecord}
 use Rattle.loops.specs.Reach.{OnLoop, reaches, onLoop}
 use Rattle.loops.specs.Counted.{counted}

@@ -10,11 +10,12 @@ use lib.ListN.{length}
 use borrow.Author.Tests.{eqb-true, ltb-true, ltb-false}
 use Rattle.value.specs.declared.Slot.{Slot}
 use Rattle.cell.specs.declared.Record.{Record}
-use Rattle.cell.specs.declared.Use.{Use}
-use Rattle.cell.specs.declared.Use.the-variants.{Unused}
+use Rattle.kinds.specs.declared.Use.{Use}
+use Rattle.kinds.specs.declared.Use.the-variants.{Unused}
 use Rattle.cell.specs.declared.Edge.{Edge}
 use Rattle.cell.specs.declared.Edge.the-variants.{To, Nowhere}
-use Rattle.cell.specs.Kinds.{kindOf, useOf, isOperand, isCombEdge, edgeAt}
+use Rattle.kinds.specs.Kinds.{kindOf, useOf}
+use Rattle.cell.specs.Operands.{isOperand, isCombEdge, edgeAt}
 use Rattle.cell.specs.Records.{recordOf, recordIn}
 use Rattle.cell.proofs.Lists.{record-past}
 

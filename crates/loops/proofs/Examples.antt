@@ -3,7 +3,8 @@ use mathlib.Core.Path.{_≡_, refl}
 use mathlib.Core.Bool.{true, false}
 use mathlib.Core.List.{List, [], _∷_, map}
 use Rattle.cell.specs.declared.Record.{Record}
-use Rattle.cell.specs.Kinds.{kindOf, fieldOf, useOf, isOperand, isCombEdge, edgeAt}
+use Rattle.kinds.specs.Kinds.{kindOf, useOf}
+use Rattle.cell.specs.Operands.{fieldOf, isOperand, isCombEdge, edgeAt}
 use Rattle.cell.specs.Records.{recordOf}
 use Rattle.value.specs.Value.{driver, eqNet}
 use Rattle.loops.specs.Reach.{stepBack, reachingIn, reaches, onLoop}

@@ -8,7 +8,7 @@ use lib.ListN.{length}
 use Rattle.value.specs.declared.Slot.{Slot}
 use Rattle.cell.specs.declared.Record.{Record}
 use Rattle.cell.specs.declared.Edge.the-variants.{To}
-use Rattle.cell.specs.Kinds.{edgeAt}
+use Rattle.cell.specs.Operands.{edgeAt}
 use Rattle.cell.specs.Records.{recordIn}
 use Rattle.loops.specs.Reach.{Reaches, edge, path, OnLoop, reaches, onLoop}
 use Rattle.loops.specs.Counted.{counted}

@@ -14,7 +14,8 @@ use Rattle.value.specs.Value.{slotAt}
 use Rattle.cell.specs.declared.Record.{Record}
 use Rattle.cell.specs.declared.Edge.{Edge}
 use Rattle.cell.specs.declared.Edge.the-variants.{To, Nowhere}
-use Rattle.cell.specs.Kinds.{kindOf, useOf, isOperand, isCombEdge, edgeAt}
+use Rattle.kinds.specs.Kinds.{kindOf, useOf}
+use Rattle.cell.specs.Operands.{isOperand, isCombEdge, edgeAt}
 use Rattle.cell.specs.Records.{recordOf, recordIn}
 use Rattle.loops.specs.Reach.{Reaches, edge, path, OnLoop, hits, leads, stepBack, reachingIn, reaches, onLoop}
 use Rattle.loops.specs.Counted.{counted}

@@ -17,7 +17,7 @@ use Rattle.value.specs.declared.Slot.{Slot}
 use Rattle.cell.specs.declared.Record.{Record}
 use Rattle.cell.specs.declared.Edge.{Edge}
 use Rattle.cell.specs.declared.Edge.the-variants.{To, Nowhere}
-use Rattle.cell.specs.Kinds.{edgeAt}
+use Rattle.cell.specs.Operands.{edgeAt}
 use Rattle.cell.specs.Records.{recordAt, recordsOf, recordIn}
 use Rattle.cell.proofs.Lists.{records-length, records-at}
 use Rattle.loops.specs.declared.Stop.{Stop}

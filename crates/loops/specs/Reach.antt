@@ -9,7 +9,7 @@ use Rattle.value.specs.Value.{slotAt}
 use Rattle.cell.specs.declared.Record.{Record}
 use Rattle.cell.specs.declared.Edge.{Edge}
 use Rattle.cell.specs.declared.Edge.the-variants.{To, Nowhere}
-use Rattle.cell.specs.Kinds.{edgeAt}
+use Rattle.cell.specs.Operands.{edgeAt}
 use Rattle.cell.specs.Records.{recordIn}
 
 -- the relation: slot s reaches slot y by one combinational edge or more

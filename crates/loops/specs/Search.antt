@@ -9,7 +9,7 @@ use Rattle.value.specs.Value.{slotAt}
 use Rattle.cell.specs.declared.Record.{Record}
 use Rattle.cell.specs.declared.Edge.the-variants.{To}
 use Rattle.cell.specs.Limits.{workWords, maxRecords}
-use Rattle.cell.specs.Kinds.{edgeAt}
+use Rattle.cell.specs.Operands.{edgeAt}
 use Rattle.cell.specs.Records.{recordIn}
 use Rattle.loops.specs.declared.Found.{Found}
 use Rattle.loops.specs.declared.Found.the-variants.{At, Nothing}

@@ -9,7 +9,7 @@ use lib.ListN.{length, getD, drop}
 use Rattle.value.specs.declared.Slot.{Slot}
 use Rattle.cell.specs.declared.Record.{Record}
 use Rattle.cell.specs.declared.Edge.the-variants.{To}
-use Rattle.cell.specs.Kinds.{edgeAt}
+use Rattle.cell.specs.Operands.{edgeAt}
 use Rattle.cell.specs.Records.{recordIn}
 use Rattle.loops.specs.declared.Stop.{Stop}
 use Rattle.loops.specs.declared.Stop.the-variants.{Any, At}

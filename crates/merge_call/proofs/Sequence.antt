@@ -9,7 +9,7 @@ use lib.Dec.{eqb}
 use lib.ListN.{length, getD, length-map}
 use borrow.Author.Tests.{eqb-true}
 use Rattle.cell.specs.declared.Record.{Record}
-use Rattle.cell.specs.Kinds.{kindOf}
+use Rattle.kinds.specs.Kinds.{kindOf}
 use Rattle.cell.specs.Records.{recordOf, recordIn}
 use Rattle.netlist.specs.Netlist.{netlistOf}
 use Rattle.design.proofs.Lists.{map-at}

@@ -14,7 +14,8 @@ use Rattle.value.specs.declared.Driver.the-variants as driven
 use Rattle.cell.specs.declared.Record.{Record}
 use Rattle.cell.specs.declared.Edge.the-variants.{To}
 use Rattle.cell.specs.declared.Cell.the-variants.{Input}
-use Rattle.cell.specs.Kinds.{kindOf, edgeAt}
+use Rattle.kinds.specs.Kinds.{kindOf}
+use Rattle.cell.specs.Operands.{edgeAt}
 use Rattle.cell.specs.Records.{recordOf, recordIn, cellOf}
 use Rattle.loops.specs.Reach.{OnLoop, onLoop}
 use Rattle.loops.proofs.Edges.{edge-field}

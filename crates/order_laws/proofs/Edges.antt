@@ -14,7 +14,8 @@ use Rattle.value.proofs.Laws.{net-of}
 use Rattle.cell.specs.declared.Record.{Record}
 use Rattle.cell.specs.declared.Cell.{Cell}
 use Rattle.cell.specs.declared.Cell.the-variants.{Input, Output, Buf, Not, And, Or, Xor, Mux, Aig}
-use Rattle.cell.specs.Kinds.{kindOf, fieldOf, useOf, isOperand, isCombEdge, edgeOf, edgeAt}
+use Rattle.kinds.specs.Kinds.{kindOf, useOf}
+use Rattle.cell.specs.Operands.{fieldOf, isOperand, isCombEdge, edgeOf, edgeAt}
 use Rattle.cell.specs.Records.{recordOf, cellOf, cellRecord}
 use Rattle.cell.specs.declared.Edge.the-variants.{To, Nowhere}
 use Rattle.cell.proofs.RoundTrips.{cell-back}

@@ -10,7 +10,7 @@ use borrow.Author.Tests.{eqb-true, leb-true, ne-eqb, lt-leb}
 use Rattle.value.specs.declared.Net.{Net}
 use Rattle.cell.specs.declared.Cell.{Cell}
 use Rattle.cell.specs.declared.Cell.the-variants.{Input, Output, Buf, Not, And, Or, Xor, Mux, Aig}
-use Rattle.cell.specs.Kinds.{kindOf}
+use Rattle.kinds.specs.Kinds.{kindOf}
 use Rattle.cell.specs.Records.{cellRecord}
 use Rattle.netlist.specs.Shape.{visitMut, isInput, isOutput, hasEffects, isSplittable}
 use Rattle.netlist.specs.Netlist.{cellIn}

@@ -11,7 +11,8 @@ use Rattle.value.specs.declared.ControlNet.the-variants.{Pos, Neg}
 use Rattle.cell.specs.declared.Record.{Record}
 use Rattle.cell.specs.declared.Cell.{Cell}
 use Rattle.cell.specs.declared.Cell.the-variants.{Input, Output, Buf, Not, And, Or, Xor, Mux, Aig}
-use Rattle.cell.specs.Kinds.{kindOf, fieldOf, useOf, isOperand}
+use Rattle.kinds.specs.Kinds.{kindOf, useOf}
+use Rattle.cell.specs.Operands.{fieldOf, isOperand}
 use Rattle.cell.specs.Records.{recordIn, cellRecord}
 use Rattle.netlist.specs.Shape.{visitMut, isInput, isOutput}
 use Rattle.netlist.specs.Netlist.{Netlist, cellIn, encode, slots, those}

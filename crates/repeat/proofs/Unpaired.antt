@@ -15,7 +15,8 @@ use Rattle.value.specs.declared.Net.{Net}
 use Rattle.value.specs.Value.{driver, netAt, eqNet}
 use Rattle.cell.specs.declared.Record.{Record}
 use Rattle.cell.specs.Records.{recordOf, recordIn}
-use Rattle.cell.specs.Kinds.{isOperand, fieldOf, kindOf, useOf}
+use Rattle.kinds.specs.Kinds.{kindOf, useOf}
+use Rattle.cell.specs.Operands.{isOperand, fieldOf}
 use Rattle.cell.specs.Tabulate.{tabulate}
 use Rattle.netlist.specs.Netlist.{anyOf, slots, those}
 use Rattle.order_laws.specs.Members.{All}

@@ -9,7 +9,7 @@ use lib.Dec.{eqb}
 use lib.ListN.{length}
 use Rattle.value.specs.Value.{netAt}
 use Rattle.cell.specs.declared.Record.{Record}
-use Rattle.cell.specs.Kinds.{fieldOf, isOperand}
+use Rattle.cell.specs.Operands.{fieldOf, isOperand}
 use Rattle.cell.specs.Records.{recordOf, recordIn}
 use Rattle.netlist.specs.Netlist.{slots, those}
 use Rattle.normal.specs.Paired.{renumber}

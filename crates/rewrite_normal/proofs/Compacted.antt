@@ -16,7 +16,7 @@ use Rattle.value.specs.Value.{driver, slotAt}
 use Rattle.value.proofs.Laws.{cell-driver, driver-cell}
 use Rattle.cell.specs.declared.Cell.{Cell}
 use Rattle.cell.specs.declared.Cell.the-variants.{Input, Output, Buf, Not, And, Or, Xor, Mux, Aig}
-use Rattle.cell.specs.Kinds.{kindOf}
+use Rattle.kinds.specs.Kinds.{kindOf}
 use Rattle.cell.specs.Records.{cellRecord}
 use Rattle.netlist.specs.Shape.{visit, visitMut, isInput, hasEffects, isOutput}
 use Rattle.netlist.specs.Netlist.{cellIn}

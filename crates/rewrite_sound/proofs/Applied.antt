@@ -9,7 +9,7 @@ use lib.Dec.{eqb, ltb, leb}
 use lib.ListN.{length, getD, replicate, length-append, length-replicate, List·getD-eq-default}
 use borrow.Author.Tests.{eqb-true, eqb-false, ltb-true, ltb-false, le-leb, leb-false, leb-true}
 use Rattle.cell.specs.declared.Cell.{Cell}
-use Rattle.cell.specs.Kinds.{kindOf}
+use Rattle.kinds.specs.Kinds.{kindOf}
 use Rattle.cell.specs.Records.{cellRecord}
 use Rattle.checking.specs.Checking.{outOfSequence}
 use Rattle.netlist.specs.Shape.{visit, visitMut, isOutput, hasEffects}

@@ -1,7 +1,7 @@
 use mathlib.Core.Path.{_∙_, sym, ap}
 use Prim.Native.Nat.{ℕ}
 use Rattle.value.specs.Value.{netAt, driver}
-use Rattle.cell.specs.Kinds.{edgeOf, edgeAt}
+use Rattle.cell.specs.Operands.{edgeOf, edgeAt}
 use borrow.Author.Needs.{needs}
 use Rattle.cell.proofs.edge_at.Statement.{statement}
 use Rattle.cell.proofs.edge_at.Tie as tie

@@ -1,5 +1,5 @@
 use borrow.Author.Tests.{eq-eqb, ne-eqb}
-use Rattle.cell.specs.Kinds.{fieldOf}
+use Rattle.cell.specs.Operands.{fieldOf}
 use Rattle.cell.proofs.field.Statement.{statement}
 use Rattle.cell.proofs.field.Tie as tie
 use Rattle.cell.proofs.field.Reads as reads

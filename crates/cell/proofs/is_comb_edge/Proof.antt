@@ -1,4 +1,4 @@
-use Rattle.cell.specs.Kinds.{isCombEdge}
+use Rattle.cell.specs.Operands.{isCombEdge}
 use borrow.Author.Needs.{needs}
 use Rattle.cell.proofs.is_comb_edge.Statement.{statement}
 use Rattle.cell.proofs.is_comb_edge.Tie as tie

@@ -1,12 +1,12 @@
-use Rattle.cell.specs.Kinds.{isOperand}
+use Rattle.cell.specs.Operands.{isOperand}
 use borrow.Author.Needs.{needs}
 use Rattle.cell.proofs.is_operand.Statement.{statement}
 use Rattle.cell.proofs.is_operand.Tie as tie
 use Rattle.cell.proofs.is_operand.Reads as reads
 use Rattle.cell.proofs.is_operand.Lts as lts
-use Rattle.cell.proofs.is_operand_use.Reads as is-operand-use-reads
-use Rattle.cell.proofs.kind_of.Reads as kind-of-reads
-use Rattle.cell.proofs.use_of.Reads as use-of-reads
+use Rattle.kinds.proofs.is_operand_use.Reads as is-operand-use-reads
+use Rattle.kinds.proofs.kind_of.Reads as kind-of-reads
+use Rattle.kinds.proofs.use_of.Reads as use-of-reads
 
 -- src/lib.rt:248:27
 kind-of-requires : tie.Need-kind-of-requires

@@ -4,7 +4,7 @@ use Rattle.checking.proofs.follows.Statement.{statement}
 use Rattle.checking.proofs.follows.Tie as tie
 use Rattle.checking.proofs.follows.Reads as reads
 use Rattle.checking.proofs.follows.Lts as lts
-use Rattle.cell.proofs.kind_of.Reads as kind-of-reads
+use Rattle.kinds.proofs.kind_of.Reads as kind-of-reads
 use Rattle.logic.proofs.both.Reads as both-reads
 use Rattle.logic.proofs.either.Reads as either-reads
 

@@ -2,15 +2,15 @@ use borrow.Author.Needs.{needs}
 use native.Mathlib.Omega.{arith}
 use Prim.Native.Nat.{_-_}
 use mathlib.Core.Path.{ap}
-use Rattle.cell.specs.declared.Kind.{Kind}
-use Rattle.cell.proofs.Laws.{gates-one}
+use Rattle.kinds.specs.declared.Kind.{Kind}
+use Rattle.kinds.proofs.Laws.{gates-one}
 use Rattle.checking.proofs.Records.{Counting, counts-none, counts-more, counts-all}
 use Rattle.checking.proofs.gate_count.Statement.{statement}
 use Rattle.checking.proofs.gate_count.Tie as tie
 use Rattle.checking.proofs.gate_count.Reads as reads
 use Rattle.checking.proofs.gate_count.Lts as lts
 use Rattle.cell.proofs.kind_at.Reads as kind-at-reads
-use Rattle.cell.proofs.kind_of.Reads as kind-of-reads
+use Rattle.kinds.proofs.kind_of.Reads as kind-of-reads
 
 abbrev Inv-loop : tie.InvT-loop
 Inv-loop t n s₀ sum₀ s sum = Counting t n s sum

@@ -4,7 +4,7 @@ use Rattle.checking.proofs.out_of_sequence.Statement.{statement}
 use Rattle.checking.proofs.out_of_sequence.Tie as tie
 use Rattle.checking.proofs.out_of_sequence.Reads as reads
 use Rattle.checking.proofs.out_of_sequence.Lts as lts
-use Rattle.cell.proofs.kind_of.Reads as kind-of-reads
+use Rattle.kinds.proofs.kind_of.Reads as kind-of-reads
 use Rattle.checking.proofs.follows.Reads as follows-reads
 use Rattle.logic.proofs.either.Reads as either-reads
 

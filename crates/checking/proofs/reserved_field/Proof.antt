@@ -4,7 +4,7 @@ use Rattle.checking.proofs.reserved_field.Statement.{statement}
 use Rattle.checking.proofs.reserved_field.Tie as tie
 use Rattle.checking.proofs.reserved_field.Reads as reads
 use Rattle.checking.proofs.reserved_field.Lts as lts
-use Rattle.cell.proofs.kind_of.Reads as kind-of-reads
+use Rattle.kinds.proofs.kind_of.Reads as kind-of-reads
 use Rattle.checking.proofs.unused_not_zero.Reads as unused-not-zero-reads
 use Rattle.logic.proofs.either.Reads as either-reads
 

@@ -4,7 +4,7 @@ use Rattle.checking.proofs.unknown_kind.Statement.{statement}
 use Rattle.checking.proofs.unknown_kind.Tie as tie
 use Rattle.checking.proofs.unknown_kind.Reads as reads
 use Rattle.checking.proofs.unknown_kind.Lts as lts
-use Rattle.cell.proofs.kind_of.Reads as kind-of-reads
+use Rattle.kinds.proofs.kind_of.Reads as kind-of-reads
 
 -- src/lib.rt:72:6
 kind-of-requires : tie.Need-kind-of-requires

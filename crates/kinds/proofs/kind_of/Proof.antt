@@ -1,12 +1,12 @@
-use Rattle.cell.specs.Kinds.{kindOf}
-use Rattle.cell.proofs.Laws.{kind-none}
+use Rattle.kinds.specs.Kinds.{kindOf}
+use Rattle.kinds.proofs.Laws.{kind-none}
 use mathlib.Core.Path.{_∙_}
 use borrow.Author.Needs.{needs}
-use Rattle.cell.proofs.kind_of.Statement.{statement}
-use Rattle.cell.proofs.kind_of.Tie as tie
-use Rattle.cell.proofs.kind_of.Reads as reads
-use Rattle.cell.proofs.kind_of.Lts as lts
-use Rattle.cell.proofs.row.Reads as row-reads
+use Rattle.kinds.proofs.kind_of.Statement.{statement}
+use Rattle.kinds.proofs.kind_of.Tie as tie
+use Rattle.kinds.proofs.kind_of.Reads as reads
+use Rattle.kinds.proofs.kind_of.Lts as lts
+use Rattle.kinds.proofs.row.Reads as row-reads
 
 -- src/lib.rt:192:14
 row-requires : tie.Need-row-requires

@@ -1,18 +1,12 @@
--- The kind table, and what it says of a record (paper, "The ticket"). Assumes nothing: these are definitions.
+-- The kind table (paper, "The ticket"): the one place that says what a kind is. Assumes nothing: these are definitions.
 use mathlib.Core.Bool.{Bool, true, false, cond}
 use mathlib.Core.List.{List, [], _∷_}
 use Prim.Native.Nat.{ℕ}
 use lib.Dec.{eqb}
 use lib.ListN.{getD}
-use Rattle.value.specs.declared.Driver.{Driver}
-use Rattle.value.specs.declared.Driver.the-variants as driven
-use Rattle.value.specs.Value.{netAt, driver}
-use Rattle.cell.specs.declared.Record.{Record}
-use Rattle.cell.specs.declared.Use.{Use}
-use Rattle.cell.specs.declared.Use.the-variants.{Unused, Label, Operand}
-use Rattle.cell.specs.declared.Kind.{Kind}
-use Rattle.cell.specs.declared.Edge.{Edge}
-use Rattle.cell.specs.declared.Edge.the-variants.{To, Nowhere}
+use Rattle.kinds.specs.declared.Use.{Use}
+use Rattle.kinds.specs.declared.Use.the-variants.{Unused, Label, Operand}
+use Rattle.kinds.specs.declared.Kind.{Kind}
 
 -- a row of the table: what fields a, b and c hold, the largest flags byte (the flags in use are the lowest bits, so another is set
 -- exactly if the byte is larger), whether a cell has one bit only, whether field a is the same in all bits of a cell, and what a record
@@ -50,10 +44,7 @@ kindTable =
 unfoldable pub kindOf : ℕ → Kind
 kindOf k = getD kindTable k unknownRow
 
--- the fields by number: 1 is a, 2 is b, 3 is c
-unfoldable pub fieldOf : Record → ℕ → ℕ
-fieldOf r f = cond (eqb f 1) (r .a) (cond (eqb f 2) (r .b) (cond (eqb f 3) (r .c) 0))
-
+-- the use of a field by its number: 1 is a, 2 is b, 3 is c
 unfoldable pub useOf : Kind → ℕ → Use
 useOf k f = cond (eqb f 1) (k .a) (cond (eqb f 2) (k .b) (cond (eqb f 3) (k .c) Unused))
 
@@ -61,20 +52,3 @@ abbrev pub isOperandUse : Use → Bool
 isOperandUse Unused = false
 isOperandUse Label = false
 isOperandUse Operand = true
-
--- a field is an operand: it holds a net
-unfoldable pub isOperand : Record → ℕ → Bool
-isOperand r f = isOperandUse (useOf (kindOf (r .kind)) f)
-
--- a combinational edge leaves a record by a field: the record's level follows from that operand's. So it is for every operand of these
--- kinds. This is judged at the reader; design.rs, `is_comb_edge`, judges the driver and leaves out inputs, which the bit order needs too
-unfoldable pub isCombEdge : Record → ℕ → Bool
-isCombEdge r f = isOperand r f
-
-abbrev pub edgeOf : Driver → Edge
-edgeOf (driven.Const t) = Nowhere
-edgeOf (driven.Cell s) = To s
-
--- where the combinational edge of a field leads
-unfoldable pub edgeAt : Record → ℕ → Edge
-edgeAt r f = cond (isCombEdge r f) (edgeOf (driver (netAt (fieldOf r f)))) Nowhere

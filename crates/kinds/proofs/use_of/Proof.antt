@@ -1,9 +1,9 @@
 use borrow.Author.Tests.{eq-eqb, ne-eqb}
-use Rattle.cell.specs.Kinds.{useOf}
-use Rattle.cell.proofs.use_of.Statement.{statement}
-use Rattle.cell.proofs.use_of.Tie as tie
-use Rattle.cell.proofs.use_of.Reads as reads
-use Rattle.cell.proofs.use_of.Lts as lts
+use Rattle.kinds.specs.Kinds.{useOf}
+use Rattle.kinds.proofs.use_of.Statement.{statement}
+use Rattle.kinds.proofs.use_of.Tie as tie
+use Rattle.kinds.proofs.use_of.Reads as reads
+use Rattle.kinds.proofs.use_of.Lts as lts
 
 -- src/lib.rt:223:1
 returns : tie.Need-returns
