@@ -10,7 +10,7 @@ use Rattle.cell.specs.declared.Record.{Record}
 use Rattle.cell.specs.declared.Cell.{Cell}
 use Rattle.cell.specs.Records.{recordsOf}
 use Rattle.netlist.specs.Netlist.{Netlist, netlistOf, encode, ticketOf}
-use Rattle.design.specs.Compact.{compact}
+use Rattle.compact.specs.Compact.{compact}
 use Rattle.merge.specs.Merge.{merge}
 use Rattle.rewrite.specs.Rewriter.{Lookup}
 use Rattle.rewrite.specs.Rewrite.{Run, run, slotsOf, rewrite}

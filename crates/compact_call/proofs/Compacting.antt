@@ -8,7 +8,7 @@ use Rattle.cell.specs.Records.{recordsOf}
 use Rattle.netlist.specs.Areas.{recordsIn, Within}
 use Rattle.netlist.specs.Netlist.{netlistOf}
 use Rattle.netlist.proofs.Frames.{within-drop}
-use Rattle.design.specs.Compact.{compact}
+use Rattle.compact.specs.Compact.{compact}
 use Rattle.calls.specs.declared.Written.{Written}
 use Rattle.calls.specs.Calls.{encoded, compactBytes}
 use Rattle.delivery.specs.Delivery.{Delivers}

@@ -9,9 +9,10 @@ use borrow.Author.Tests.{lt-ltb, le-ltb}
 use Rattle.cell.specs.declared.Record.{Record}
 use Rattle.netlist.specs.Netlist.{netlistOf}
 use Rattle.netlist.proofs.Frames.{within-drop}
-use Rattle.design.specs.Compact.{compact}
-use Rattle.design.specs.Words.{netlistIn, keptIn, Keeps}
-use Rattle.design.proofs.Compacting.{compact-length}
+use Rattle.compact.specs.Compact.{compact}
+use Rattle.design.specs.Words.{netlistIn}
+use Rattle.compact.specs.Words.{keptIn, Keeps}
+use Rattle.compact.proofs.Compacting.{compact-length}
 use Rattle.checking.specs.declared.Refusal.the-variants.{ShortReply}
 use Rattle.checking.specs.declared.Verdict.the-variants as verdict
 use Rattle.checking.specs.Refusals.{firstOf}

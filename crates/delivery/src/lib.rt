@@ -6,7 +6,7 @@ ghost use Prim.Native.Nat.{_≤_};
 ghost use lib.ListN.{length};
 ghost use Rattle.netlist.specs.Areas.{recordsIn};
 ghost use Rattle.netlist.specs.Netlist.{netlistOf};
-ghost use Rattle.design.specs.Compact.{compact};
+ghost use Rattle.compact.specs.Compact.{compact};
 ghost use Rattle.calls.specs.Work.{wiped};
 ghost use Rattle.calls.specs.Answers.{accepted, refused, writtenFigures, wordsOf};
 ghost use Rattle.calls.specs.Calls.{encoded};
@@ -30,12 +30,12 @@ pub fn deliver(work: &mut [u32], n: u32, reply: &mut [u8]) -> Written
     requires { ⌜ n ≤ 1024 ⌝ }
     ensures { λ r. ⌜ Delivers (encoded (compact (netlistOf (recordsIn n (now (work .entry)))))) (now (work .entry)) (now (work .exit)) (now (reply .entry)) (now (reply .exit)) r ⌝ }
 {
-    design::compact::keep(work, n);
-    let bytes = design::compact::kept_count(work, n) * 16;
+    compact::keep(work, n);
+    let bytes = compact::kept_count(work, n) * 16;
     if reply.len() < (bytes as usize) {
         return Written::Refused(Refusal::ShortReply);
     }
-    design::compact::compact(work, n, reply);
+    compact::compact(work, n, reply);
     Written::Accepted(bytes)
 }
 

@@ -2,8 +2,5 @@ pub mod Lists
 pub mod Words
 pub mod Visiting
 pub mod Replacing
-pub mod Compacting
 pub mod Applying
-pub mod Keeping
-pub mod Noting
 pub mod Examples

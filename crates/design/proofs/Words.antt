@@ -1,19 +1,16 @@
 -- The netlist and the areas in the words, slot by slot. Assumes nothing.
-use mathlib.Core.Path.{_≡_, refl, sym, ap, ap₂, _∙_, subst}
-use mathlib.Core.Bool.{Bool, false, not}
-use mathlib.Core.List.{List, map}
-use Prim.Native.Nat.{ℕ, _+_, _*_, _<_, _≤_}
+use mathlib.Core.Path.{_≡_, ap, _∙_}
+use mathlib.Core.List.{List}
+use Prim.Native.Nat.{ℕ, _+_, _<_, _≤_}
 use native.Mathlib.Omega.{arith}
-use lib.Dec.{eqb}
 use lib.ListN.{length, getD, length-map, List·getD-eq-default}
 use Rattle.value.specs.declared.Net.{Net}
 use Rattle.value.specs.Value.{netAt}
 use Rattle.cell.specs.declared.Record.{Record}
-use Rattle.cell.specs.Tabulate.{tabulate}
 use Rattle.cell.specs.Records.{recordOf, cellOf}
 use Rattle.cell.proofs.Lists.{tabulate-length, tabulate-at}
-use Rattle.netlist.specs.Areas.{wordRecord, recordsIn, marksIn, Within}
-use Rattle.netlist.specs.Netlist.{Netlist, cellIn, netlistOf}
+use Rattle.netlist.specs.Areas.{wordRecord, recordsIn, Within}
+use Rattle.netlist.specs.Netlist.{cellIn, netlistOf}
 use Rattle.netlist.proofs.Frames.{tabulate-same}
 use Rattle.order.proofs.Bits.{cells-length as records-cells-length, cell-at as records-cell-at}
 use Rattle.design.specs.Words.{netlistIn, replacedIn}
@@ -44,10 +41,6 @@ module _ (n : ℕ) (ws : List ℕ) where
     pub cell-at : cellIn (netlistIn n ws .cells) s ≡ cellOf (wordRecord ws s)
     unfolding netlistOf
     cell-at = records-cell-at n ws s h
-
-    pub mark-at : (base : ℕ) → getD (marksIn base n ws) s false ≡ not (eqb (getD ws (base + s) 0) 0)
-    unfolding marksIn
-    mark-at base = tabulate-at (λ i. not (eqb (getD ws (base + i) 0) 0)) n false s h
 
     pub replaced-at : (x : Net) → getD (replacedIn n ws) s x ≡ netAt (getD ws (6144 + s) 0)
     unfolding replacedIn

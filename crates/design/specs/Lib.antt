@@ -1,4 +1,3 @@
 pub mod Queue
-pub mod Compact
 pub mod Fields
 pub mod Words

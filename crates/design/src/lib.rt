@@ -1,8 +1,7 @@
-// The change queue and compacting, after netlist/src/design.rs.
+// The change queue, after netlist/src/design.rs.
 use cell::Cell;
 use value::Net;
 
-pub mod compact;
 pub mod queue;
 pub mod visit;
 

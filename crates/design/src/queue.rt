@@ -1,6 +1,5 @@
 // Replaced nets, a word a slot. A net that is not replaced stands for itself.
 use crate::visit;
-use cell::Cell;
 use cell::Record;
 use value::Driver;
 use value::Net;
@@ -11,7 +10,7 @@ ghost use lib.ListN.{length, set};
 ghost use Rattle.value.specs.Value.{driver};
 ghost use Rattle.cell.specs.Tabulate.{tabulate};
 ghost use Rattle.netlist.specs.Areas.{storeWords, Within};
-ghost use Rattle.design.specs.Queue.{netIn, drivenTo, mapNetNew, eqRecord, eqCell, didChange};
+ghost use Rattle.design.specs.Queue.{netIn, drivenTo, mapNetNew, eqRecord, didChange};
 ghost use Rattle.design.specs.Fields.{renamedFields};
 ghost use Rattle.design.specs.Words.{netlistIn, replacedIn, designIn, appliedIn, Applies};
 
@@ -72,19 +71,13 @@ pub fn map_net_new(work: &[u32], n: u32, x: Net) -> Net
     y
 }
 
+// Equality of records but for the bit.
 fn record_eq(x: Record, y: Record) -> bool
     ensures { λ r. ⌜ r ≡ eqRecord x y ⌝ }
 {
     let heads = logic::both(x.kind == y.kind, x.flags == y.flags);
     let pair = logic::both(heads, x.a == y.a);
     logic::both(logic::both(pair, x.b == y.b), x.c == y.c)
-}
-
-// Equality of cells, by the fields of their records.
-pub fn cell_eq(c: Cell, d: Cell) -> bool
-    ensures { λ r. ⌜ r ≡ eqCell c d ⌝ }
-{
-    record_eq(cell::cell_record(0, c), cell::cell_record(0, d))
 }
 
 // A cell's record with the nets that its operands are replaced by.

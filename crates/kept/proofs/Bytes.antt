@@ -29,7 +29,7 @@ use Rattle.checking.specs.declared.Verdict.the-variants.{Pass}
 use Rattle.checking.proofs.Stages.{first-passes}
 use Rattle.netlist.specs.Shape.{visit, visitMut, hasEffects}
 use Rattle.netlist.specs.Netlist.{Netlist, netlistOf, cellIn, joined, encode, ticketOf}
-use Rattle.design.proofs.Lists.{ticket-length}
+use Rattle.compact.proofs.Lists.{ticket-length}
 use Rattle.calls.specs.Calls.{encoded, checkVerdict}
 use Rattle.order_laws.specs.Members.{All}
 use Rattle.order_laws.proofs.Members.{all-imp}

@@ -23,8 +23,8 @@ use Rattle.checking.specs.Checking.{checkStages}
 use Rattle.checking.proofs.Stages.{later-decides, passes-both}
 use Rattle.netlist.specs.Shape.{visitMut}
 use Rattle.netlist.specs.Netlist.{Netlist, cellIn, encode}
-use Rattle.design.specs.Compact.{compact}
-use Rattle.design.proofs.Lists.{ticket-length}
+use Rattle.compact.specs.Compact.{compact}
+use Rattle.compact.proofs.Lists.{ticket-length}
 use Rattle.merge.specs.Merge.{merge}
 use Rattle.levels.specs.Evaluate.{inputSlots, outputLevels}
 use Rattle.calls.specs.declared.Written.the-variants as written

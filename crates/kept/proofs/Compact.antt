@@ -22,7 +22,7 @@ use Rattle.cell.specs.Records.{cellRecord}
 use Rattle.checking.specs.Checking.{outOfSequence}
 use Rattle.netlist.specs.Shape.{visit, visitMut, isOutput}
 use Rattle.netlist.specs.Netlist.{Netlist, cellIn}
-use Rattle.design.specs.Compact.{keep, isKept, keptSlots, countKept, renumbered, netMap, compact}
+use Rattle.compact.specs.Compact.{keep, isKept, keptSlots, countKept, renumbered, netMap, compact}
 use Rattle.order_laws.specs.Members.{All, Drives}
 use Rattle.order_laws.proofs.Truth.{either}
 use Rattle.order_laws.proofs.Members.{all-imp, all-both}

@@ -10,7 +10,7 @@ use borrow.Author.Tests.{eq-eqb, eqb-true}
 use Rattle.value.specs.declared.Net.{Net}
 use Rattle.netlist.specs.Shape.{visit, hasEffects}
 use Rattle.netlist.specs.Netlist.{Netlist, cellIn, slots, those, anyOf, joined, sources, startOf, outputOf, iterCells, cellDeps}
-use Rattle.design.specs.Compact.{keep, isKept}
+use Rattle.compact.specs.Compact.{keep, isKept}
 use Rattle.order_laws.specs.Ordered.{has}
 use Rattle.order_laws.specs.Members.{All, Drives}
 use Rattle.order_laws.proofs.Closed.{reached-wide, roots-reached, deps-reached, least}

@@ -12,7 +12,7 @@ use Rattle.cell.specs.declared.Cell.{Cell}
 use Rattle.cell.specs.declared.Cell.the-variants.{Input}
 use Rattle.netlist.specs.Shape.{visitMut, isInput, isOutput, hasEffects}
 use Rattle.netlist.specs.Netlist.{Netlist, cellIn, slots, those}
-use Rattle.design.specs.Compact.{keep, netMap, compact}
+use Rattle.compact.specs.Compact.{keep, netMap, compact}
 use Rattle.levels.specs.Evaluate.{levels, givenLevels, inputSlots, outputSlots, outputLevels}
 use Rattle.order_laws.proofs.Members.{all-tabulate, all-those, those-those, those-same, map-those}
 use Rattle.order_laws.proofs.Lists.{map-same, map-slots}

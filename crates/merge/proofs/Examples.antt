@@ -12,7 +12,7 @@ use Rattle.netlist.specs.Netlist.{netlistOf, encode, those, anyOf, joined, sour
 use Rattle.order.specs.Walk.{each, down, walk, walkFrom}
 use Rattle.order.specs.Orders.{iterCellsTopo}
 use Rattle.design.specs.Queue.{unchanged, followed, mapNetNew, applied, didChange, eqRecord, eqCell, seek}
-use Rattle.design.specs.Compact.{keep, keptSlots, countKept, netMap, compact}
+use Rattle.compact.specs.Compact.{keep, keptSlots, countKept, netMap, compact}
 use Rattle.merge.specs.Merge.{keyOf, findOrInsert, mergeCell, mergeCells, merging, merge}
 
 -- the paper's T8: one of two equal inverters is unread and dropped, and the flag is not set

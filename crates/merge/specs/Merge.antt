@@ -11,7 +11,7 @@ use Rattle.order.specs.Orders.{iterCellsTopo}
 use Rattle.design.specs.declared.Found.{Found}
 use Rattle.design.specs.declared.Found.the-variants.{Nothing, At}
 use Rattle.design.specs.Queue.{Design, Entry, unchanged, netIn, mapNetNew, replaceNet, applied, didChange, seek}
-use Rattle.design.specs.Compact.{compact}
+use Rattle.compact.specs.Compact.{compact}
 
 -- two operands in their order
 abbrev pub sorted : {A : Type 0} → (A → A → Bool) → (A → A → Cell) → A → A → Cell

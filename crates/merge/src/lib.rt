@@ -139,7 +139,7 @@ fn merge_next(work: &mut [u32], n: u32, k: u32, s: Slot) -> u32
     requires { ⌜ k + loadOf (netlistIn n (now work)) (s .0) ≤ 1024 ⌝ }
     ensures { λ r. ⌜ MergesNext n k (s .0) (now (work .entry)) (now (work .exit)) r ⌝ }
 {
-    if design::compact::has_effects(netlist::cell_in(work, s)) {
+    if netlist::has_effects(netlist::cell_in(work, s)) {
         return k;
     }
     merge_cell(work, n, k, s)

@@ -19,7 +19,7 @@ use Rattle.netlist.specs.Netlist.{Netlist, cellIn, those, anyOf}
 use Rattle.order.specs.Orders.{iterCellsTopo}
 use Rattle.design.specs.declared.Found.the-variants.{Nothing}
 use Rattle.design.specs.Queue.{Design, Entry, unchanged, netIn, drivenTo, mapNetNew, applied, didChange, eqCell, seek}
-use Rattle.design.specs.Compact.{compact}
+use Rattle.compact.specs.Compact.{compact}
 use Rattle.merge.specs.Merge.{keyOf, Merging, numbered, findOrInsert, mergeCell, mergeCells, merging, merge}
 use Rattle.order_laws.specs.Ordered.{has, OnceAfter}
 use Rattle.order_laws.specs.Members.{All}

@@ -10,7 +10,7 @@ use Rattle.value.specs.Value.{slotAt}
 use Rattle.cell.specs.declared.Cell.{Cell}
 use Rattle.netlist.specs.Shape.{visit, visitMut, hasEffects}
 use Rattle.netlist.specs.Netlist.{Netlist, cellIn, startOf, outputOf}
-use Rattle.design.specs.Compact.{keep, isKept, netMap, compact}
+use Rattle.compact.specs.Compact.{keep, isKept, netMap, compact}
 use Rattle.order_laws.specs.Members.{All, Drives}
 use Rattle.order_laws.proofs.Members.{all-imp, all-both}
 use Rattle.order_laws.proofs.Operands.{all-visited}

@@ -11,7 +11,7 @@ use borrow.Author.Tests.{eq-eqb, ltb-true, eqb-true, eqb-false, ltb-false}
 use Rattle.cell.specs.Tabulate.{tabulate}
 use Rattle.netlist.specs.Netlist.{Netlist, run, cellIn, outputOf, startOf}
 use Rattle.netlist.specs.Shape.{isInput, visit, hasEffects}
-use Rattle.design.specs.Compact.{keep, isKept}
+use Rattle.compact.specs.Compact.{keep, isKept}
 use Rattle.order_laws.specs.Members.{All, Drives}
 use Rattle.order_laws.proofs.Truth.{either, never}
 use Rattle.order_laws.proofs.Sorts.{inputs-by, input-effects}

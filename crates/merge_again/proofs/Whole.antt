@@ -16,7 +16,7 @@ use Rattle.cell.proofs.Lists.{tabulate-length}
 use Rattle.netlist.specs.Shape.{visit, visitMut}
 use Rattle.netlist.specs.Netlist.{Netlist, cellIn, slots, anyOf}
 use Rattle.design.specs.Queue.{netIn}
-use Rattle.design.specs.Compact.{keep, isKept, keptSlots, countKept, renumbered, netMap, compact}
+use Rattle.compact.specs.Compact.{keep, isKept, keptSlots, countKept, renumbered, netMap, compact}
 use Rattle.order_laws.specs.Members.{All}
 use Rattle.order_laws.proofs.Members.{all-imp, all-tabulate, any-none, those-every}
 use Rattle.order_laws.proofs.Lists.{map-same, map-slots}

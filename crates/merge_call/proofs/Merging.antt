@@ -10,7 +10,7 @@ use Rattle.cell.specs.Records.{recordsOf}
 use Rattle.netlist.specs.Areas.{recordsIn, Within}
 use Rattle.netlist.specs.Netlist.{Netlist, netlistOf}
 use Rattle.netlist.proofs.Frames.{within-drop}
-use Rattle.design.specs.Compact.{compact}
+use Rattle.compact.specs.Compact.{compact}
 use Rattle.design.specs.Words.{netlistIn}
 use Rattle.merge.specs.Merge.{merging, mergedNetlist, merge}
 use Rattle.merge.specs.Words.{Sequenced, MergesNetlist}

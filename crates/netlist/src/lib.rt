@@ -1,4 +1,4 @@
-// A netlist in the words of the work slice: its records, read and written slot by slot.
+// Which cells have effects; and a netlist in the words of the work slice: its records, read and written slot by slot.
 use cell::Cell;
 use cell::Record;
 use value::Slot;
@@ -6,7 +6,25 @@ ghost use mathlib.Core.Path.{_≡_};
 ghost use Prim.Native.Nat.{_*_, _/_, _≤_, _<_};
 ghost use lib.ListN.{length};
 ghost use Rattle.cell.specs.Records.{cellOf, recordsOf};
+ghost use Rattle.netlist.specs.Shape.{hasEffects};
 ghost use Rattle.netlist.specs.Areas.{wordRecord, storeWords, recordsIn, Within};
+
+// `Cell::has_effects`: inputs and outputs, of the kinds that a ticket has.
+pub fn has_effects(c: Cell) -> bool
+    ensures { λ r. ⌜ r ≡ hasEffects c ⌝ }
+{
+    match c {
+        Cell::Input(_) => true,
+        Cell::Output(_, _) => true,
+        Cell::Buf(_) => false,
+        Cell::Not(_) => false,
+        Cell::And(_, _) => false,
+        Cell::Or(_, _) => false,
+        Cell::Xor(_, _) => false,
+        Cell::Mux(_, _, _) => false,
+        Cell::Aig(_, _) => false,
+    }
+}
 
 // The record of a slot.
 pub fn record_in(work: &[u32], s: Slot) -> Record

@@ -13,7 +13,7 @@ use Rattle.netlist.specs.Shape.{isInput, hasEffects}
 use Rattle.netlist.specs.Netlist.{Netlist, cellIn}
 use Rattle.design.specs.declared.Source.{Source}
 use Rattle.design.specs.Queue.{sourceIn}
-use Rattle.design.specs.Compact.{keep, isKept}
+use Rattle.compact.specs.Compact.{keep, isKept}
 use Rattle.normalize.specs.declared.Outcome.{Outcome}
 use Rattle.normalize.specs.declared.Outcome.the-variants.{None, Value, Form, Add, NotOf, AddNotOf}
 use Rattle.aig.specs.Aig.{simpleAigOpt}

@@ -21,7 +21,7 @@ use Rattle.netlist.specs.Shape.{visit, visitMut, hasEffects}
 use Rattle.netlist.specs.Netlist.{Netlist, cellIn}
 use Rattle.design.specs.declared.Source.the-variants.{Opaque, Known}
 use Rattle.design.specs.Queue.{netIn, sourceIn}
-use Rattle.design.specs.Compact.{keep, isKept}
+use Rattle.compact.specs.Compact.{keep, isKept}
 use Rattle.order_laws.proofs.Members.{all-imp}
 use Rattle.order_laws.proofs.Sorts.{ByKind, effects-by, inputs-by}
 use Rattle.levels_laws.specs.Algebra.{Before, Ranked}

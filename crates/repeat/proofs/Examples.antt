@@ -20,7 +20,7 @@ use Rattle.netlist.specs.Netlist.{netlistOf, encode, ticketOf, those, anyOf, jo
 use Rattle.order.specs.Walk.{each, down, walk, walkFrom}
 use Rattle.order.specs.Orders.{bitDeps, topoSort}
 use Rattle.design.specs.Queue.{unchanged, followed, mapNetNew, findNewCell, applied, eqRecord, eqCell, seek}
-use Rattle.design.specs.Compact.{keep, keptSlots, countKept, netMap, compact}
+use Rattle.compact.specs.Compact.{keep, keptSlots, countKept, netMap, compact}
 use Rattle.normalize.specs.Outcomes.{_orElse_, fromControl}
 use Rattle.normalize.specs.Normalize.{normalize}
 use Rattle.aig.specs.Aig.{ifNot, ifAig, ifXor, notRule, aigOfNot, andAnd, andWith, aigOfAnd, nandAnd, xorOf, nandNand, nandWith, aigOfNand, xorAnd, xorWith, aigOfXor, aigOrder, aigRule, andXor, xorXor, xorOrder, xorRule, simpleAigOpt}

@@ -17,7 +17,7 @@ use Rattle.checking.specs.Checking.{workStage, sizeStage, netlistStages, checkS
 use Rattle.checking.proofs.Stages.{first-passes}
 use Rattle.netlist.specs.Netlist.{Netlist, encode}
 use Rattle.design.specs.Queue.{findNewCell}
-use Rattle.design.proofs.Lists.{ticket-length}
+use Rattle.compact.proofs.Lists.{ticket-length}
 use Rattle.merge.specs.Merge.{merge}
 use Rattle.rewrite.specs.Rewrite.{run, slotsOf, rewrite}
 use Rattle.calls.specs.Answers.{writtenBy, mergedBy}

@@ -21,8 +21,8 @@ use Rattle.checking.proofs.Stages.{first-refuses, first-passes, no-stage, passe
 use Rattle.netlist.specs.Shape.{isOutput}
 use Rattle.netlist.specs.Netlist.{Netlist, cellIn, encode}
 use Rattle.design.specs.Queue.{findNewCell}
-use Rattle.design.specs.Compact.{compact}
-use Rattle.design.proofs.Lists.{ticket-length}
+use Rattle.compact.specs.Compact.{compact}
+use Rattle.compact.proofs.Lists.{ticket-length}
 use Rattle.merge.specs.Merge.{merge}
 use Rattle.rewrite.specs.Rewrite.{slotsOf, rewrite}
 use Rattle.levels.specs.Evaluate.{givenLevels, levels, outputSlots, outputLevels}

@@ -12,7 +12,7 @@ use Rattle.order.specs.Orders.{topoSort}
 use Rattle.design.specs.declared.Found.{Found}
 use Rattle.design.specs.declared.Found.the-variants.{Nothing, At}
 use Rattle.design.specs.Queue.{netIn, mapNetNew, replaceCell, replaceNet, applied, seek}
-use Rattle.design.specs.Compact.{compact}
+use Rattle.compact.specs.Compact.{compact}
 use Rattle.normalize.specs.declared.Outcome.{Outcome}
 use Rattle.normalize.specs.declared.Outcome.the-variants.{None, Value, Form, Add, NotOf, AddNotOf}
 use Rattle.normalize.specs.Outcomes.{_orElse_}

@@ -15,7 +15,7 @@ use Rattle.netlist.specs.Shape.{visit, visitMut, isInput, isOutput, hasEffects}
 use Rattle.netlist.specs.Netlist.{Netlist, cellIn, slots, those}
 use Rattle.order.specs.Orders.{topoSort}
 use Rattle.design.specs.Queue.{netIn, findNewCell}
-use Rattle.design.specs.Compact.{keep, keptSlots, countKept, renumbered, netMap, compact}
+use Rattle.compact.specs.Compact.{keep, keptSlots, countKept, renumbered, netMap, compact}
 use Rattle.rewrite.specs.Rewriter.{Rewriter}
 use Rattle.rewrite.specs.Rewrite.{Run, ran, stuck, run, compacted, rewrite}
 use Rattle.levels.specs.Evaluate.{inputSlots, outputSlots}

@@ -20,7 +20,7 @@ use Rattle.netlist.specs.Shape.{visit, visitMut, isSplittable, hasEffects}
 use Rattle.netlist.specs.Netlist.{cellIn}
 use Rattle.order.specs.Orders.{topoSort}
 use Rattle.design.specs.Queue.{netIn, drivenTo, mapNetNew, applied}
-use Rattle.design.specs.Compact.{keep, isKept}
+use Rattle.compact.specs.Compact.{keep, isKept}
 use Rattle.order_laws.specs.Members.{All, Drives}
 use Rattle.order_laws.proofs.Bits.{topoSort-each}
 use Rattle.order_laws.proofs.Truth.{either, never}

@@ -12,7 +12,7 @@ use Rattle.netlist.specs.Areas.{recordsIn, Within}
 use Rattle.netlist.specs.Netlist.{netlistOf}
 use Rattle.netlist.proofs.Frames.{within-drop}
 use Rattle.design.specs.Queue.{findNewCell}
-use Rattle.design.specs.Compact.{compact}
+use Rattle.compact.specs.Compact.{compact}
 use Rattle.design.specs.Words.{netlistIn}
 use Rattle.rewrite.specs.Rewrite.{run, slotsOf, rewrite}
 use Rattle.rewriter.specs.declared.Rewritten.{Rewritten}

@@ -24,7 +24,7 @@ use Rattle.design.specs.declared.Source.{Source}
 use Rattle.design.specs.declared.Source.the-variants.{Opaque, Known}
 use Rattle.design.specs.declared.Found.the-variants.{At}
 use Rattle.design.specs.Queue.{netIn, seek}
-use Rattle.design.specs.Compact.{keep, isKept, keptSlots, countKept, renumbered, netMap, compact}
+use Rattle.compact.specs.Compact.{keep, isKept, keptSlots, countKept, renumbered, netMap, compact}
 use Rattle.normalize.specs.declared.Outcome.the-variants.{None}
 use Rattle.normalize.specs.Normalize.{normalize}
 use Rattle.aig.specs.Aig.{simpleAigOpt}

@@ -15,7 +15,7 @@ use Rattle.netlist.specs.Shape.{visit, visitMut, hasEffects}
 use Rattle.netlist.specs.Netlist.{Netlist, cellIn, startOf, outputOf}
 use Rattle.order.specs.Orders.{topoSort}
 use Rattle.design.specs.Queue.{applied}
-use Rattle.design.specs.Compact.{keep, isKept}
+use Rattle.compact.specs.Compact.{keep, isKept}
 use Rattle.rewrite.specs.Rewriter.{Rewriter}
 use Rattle.order_laws.specs.Members.{All, Drives}
 use Rattle.order_laws.proofs.Truth.{either}

@@ -4,7 +4,7 @@ use Prim.Native.Nat.{ℕ, _≤_}
 use Rattle.netlist.specs.Netlist.{Netlist}
 use Rattle.order.specs.Orders.{topoSort}
 use Rattle.design.specs.Queue.{findNewCell}
-use Rattle.design.specs.Compact.{compact}
+use Rattle.compact.specs.Compact.{compact}
 use Rattle.rewrite.specs.Rewriter.{Rewriter}
 use Rattle.rewrite.specs.Rewrite.{run, slotsOf, rewrite}
 use Rattle.rewrite_laws.proofs.Running.{run-ok}

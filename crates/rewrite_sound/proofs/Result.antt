@@ -10,7 +10,7 @@ use Rattle.netlist.specs.Shape.{visit}
 use Rattle.netlist.specs.Netlist.{Netlist, cellIn}
 use Rattle.order.specs.Orders.{topoSort}
 use Rattle.design.specs.Queue.{applied}
-use Rattle.design.specs.Compact.{compact}
+use Rattle.compact.specs.Compact.{compact}
 use Rattle.rewrite.specs.Rewriter.{Rewriter, Lookup}
 use Rattle.rewrite.specs.Rewrite.{Run, ran, stuck, run, slotsOf, compacted, rewrite}
 use Rattle.levels.specs.Evaluate.{inputSlots, outputLevels}

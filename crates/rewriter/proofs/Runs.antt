@@ -21,7 +21,7 @@ use Rattle.order.specs.Orders.{bitDeps, topoSort}
 use Rattle.order.specs.Code.{Sorts}
 use Rattle.order.proofs.Words.{tabulate-replicate}
 use Rattle.design.specs.Queue.{netIn, unchanged, applied, findNewCell}
-use Rattle.design.specs.Compact.{compact}
+use Rattle.compact.specs.Compact.{compact}
 use Rattle.design.specs.Words.{netlistIn, replacedIn}
 use Rattle.design.proofs.Words.{cells-length, bits-length, bit-at}
 use Rattle.numberer.specs.Words.{numbererIn}

@@ -10,7 +10,7 @@ use Rattle.netlist.specs.Shape.{visit}
 use Rattle.netlist.specs.Netlist.{cellIn}
 use Rattle.order.specs.Orders.{bitDeps, topoSort}
 use Rattle.design.specs.Queue.{applied, findNewCell}
-use Rattle.design.specs.Compact.{compact}
+use Rattle.compact.specs.Compact.{compact}
 use Rattle.design.specs.Words.{netlistIn}
 use Rattle.rewrite.specs.Rewriter.{begun}
 use Rattle.rewrite.specs.Rewrite.{Run, ran, addCell, processCell, bitDone, cellDone, run, runItem, runItems, slotsOf, rewrite}

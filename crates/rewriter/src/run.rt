@@ -76,7 +76,7 @@ fn run_item(work: &mut [u32], x: Extent, s: Slot) -> Step
     ensures { λ r. ⌜ RunsItem x (s .0) (now (work .entry)) (now (work .exit)) r ⌝ }
 {
     let c = mapped_cell(work, x, s);
-    if design::compact::has_effects(c) {
+    if netlist::has_effects(c) {
         return Step::On(x);
     }
     if is_splittable(c) {

@@ -21,7 +21,7 @@ use Rattle.netlist.specs.Netlist.{netlistOf, encode, ticketOf, those, anyOf, jo
 use Rattle.order.specs.Walk.{each, down, walk, walkFrom}
 use Rattle.order.specs.Orders.{bitDeps, topoSort, iterCellsTopo}
 use Rattle.design.specs.Queue.{unchanged, followed, mapNetNew, findNewCell, applied, didChange, eqRecord, eqCell, seek}
-use Rattle.design.specs.Compact.{keep, keptSlots, countKept, netMap, compact}
+use Rattle.compact.specs.Compact.{keep, keptSlots, countKept, netMap, compact}
 use Rattle.merge.specs.Merge.{keyOf, findOrInsert, mergeCell, mergeCells, merging, merge}
 use Rattle.normalize.specs.Outcomes.{_orElse_, fromControl}
 use Rattle.normalize.specs.Normalize.{normalize}

@@ -13,7 +13,7 @@ use Rattle.netlist.specs.Netlist.{Netlist, cellIn, those, startOf, outputOf}
 use Rattle.order.specs.Orders.{topoSort, iterCellsTopo}
 use Rattle.design.specs.declared.Found.the-variants.{At}
 use Rattle.design.specs.Queue.{Design, netIn, unchanged, mapNetNew, findNewCell, applied, seek}
-use Rattle.design.specs.Compact.{keep, isKept}
+use Rattle.compact.specs.Compact.{keep, isKept}
 use Rattle.merge.specs.Merge.{merging}
 use Rattle.rewrite.specs.Rewriter.{Rewriter, begun}
 use Rattle.rewrite.specs.Rewrite.{none, cell, processCell, ran, run}

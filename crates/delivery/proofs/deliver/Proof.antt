@@ -5,9 +5,9 @@ use Rattle.delivery.proofs.deliver.Statement.{statement}
 use Rattle.delivery.proofs.deliver.Tie as tie
 use Rattle.delivery.proofs.deliver.Reads as reads
 use Rattle.delivery.proofs.deliver.Lts as lts
-use Rattle.design.proofs.compact.compact.Reads as compact-reads
-use Rattle.design.proofs.compact.keep.Reads as keep-reads
-use Rattle.design.proofs.compact.kept_count.Reads as kept-count-reads
+use Rattle.compact.proofs.compact.Reads as compact-reads
+use Rattle.compact.proofs.keep.Reads as keep-reads
+use Rattle.compact.proofs.kept_count.Reads as kept-count-reads
 
 -- src/lib.rt:33:5
 keep-requires : tie.Need-keep-requires

@@ -5,7 +5,7 @@ use Rattle.merge.proofs.merge_next.Statement.{statement}
 use Rattle.merge.proofs.merge_next.Tie as tie
 use Rattle.merge.proofs.merge_next.Reads as reads
 use Rattle.merge.proofs.merge_next.Lts as lts
-use Rattle.design.proofs.compact.has_effects.Reads as has-effects-reads
+use Rattle.netlist.proofs.has_effects.Reads as has-effects-reads
 use Rattle.merge.proofs.merge_cell.Reads as merge-cell-reads
 use Rattle.netlist.proofs.cell_in.Reads as cell-in-reads
 

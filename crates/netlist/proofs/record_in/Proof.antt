@@ -6,55 +6,55 @@ use Rattle.netlist.proofs.record_in.Reads as reads
 use Rattle.netlist.proofs.record_in.Lts as lts
 use Rattle.cell.proofs.word.Reads as word-reads
 
--- src/lib.rt:15:14
+-- src/lib.rt:33:14
 cast-i : tie.Need-cast-i
 cast-i c = search needs
 
--- src/lib.rt:15:13
+-- src/lib.rt:33:13
 mul-i : tie.Need-mul-i
 mul-i c = search needs
 
--- src/lib.rt:16:9
+-- src/lib.rt:34:9
 word-requires : tie.Need-word-requires
 word-requires c κs = search needs
 
--- src/lib.rt:18:15
+-- src/lib.rt:36:15
 cast-t7 : tie.Need-cast-t7
 cast-t7 c = search needs
 
--- src/lib.rt:19:16
+-- src/lib.rt:37:16
 cast-t10 : tie.Need-cast-t10
 cast-t10 c = search needs
 
--- src/lib.rt:20:14
+-- src/lib.rt:38:14
 cast-t12 : tie.Need-cast-t12
 cast-t12 c = search needs
 
--- src/lib.rt:21:29
+-- src/lib.rt:39:29
 add-word : tie.Need-add-word
 add-word c = search needs
 
--- src/lib.rt:21:12
+-- src/lib.rt:39:12
 word-requires-2 : tie.Need-word-requires-2
 word-requires-2 c κs = search needs
 
--- src/lib.rt:22:29
+-- src/lib.rt:40:29
 add-word-2 : tie.Need-add-word-2
 add-word-2 c = search needs
 
--- src/lib.rt:22:12
+-- src/lib.rt:40:12
 word-requires-3 : tie.Need-word-requires-3
 word-requires-3 c κs = search needs
 
--- src/lib.rt:23:29
+-- src/lib.rt:41:29
 add-word-3 : tie.Need-add-word-3
 add-word-3 c = search needs
 
--- src/lib.rt:23:12
+-- src/lib.rt:41:12
 word-requires-4 : tie.Need-word-requires-4
 word-requires-4 c κs = search needs
 
--- src/lib.rt:12:1
+-- src/lib.rt:30:1
 returns : tie.Need-returns
 unfolding wordRecord
 returns c = cc

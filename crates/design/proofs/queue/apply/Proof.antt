@@ -15,35 +15,35 @@ Inv-loop work₀ n changed₀ s₀ work changed s = Applying n work₀ work chan
 abbrev μ-loop : tie.MeasureT-loop
 μ-loop work₀ n changed₀ s₀ work changed s = n - s
 
--- src/queue.rt:111:5
+-- src/queue.rt:126:5
 loop-holds : tie.Need-loop-holds Inv-loop μ-loop
 loop-holds c = search applying-none
 
--- src/queue.rt:112:13
+-- src/queue.rt:127:13
 apply-to-requires : tie.Need-apply-to-requires Inv-loop μ-loop
 apply-to-requires c κs = search needs
 
--- src/queue.rt:113:9
+-- src/queue.rt:128:9
 either-requires : tie.Need-either-requires Inv-loop μ-loop
 either-requires c κs = search needs
 
--- src/queue.rt:114:9
+-- src/queue.rt:129:9
 add-s : tie.Need-add-s Inv-loop μ-loop
 add-s c = omega arith
 
--- src/queue.rt:111:5
+-- src/queue.rt:126:5
 loop-less : tie.Need-loop-less Inv-loop μ-loop
 loop-less c = omega arith
 
--- src/queue.rt:111:5
+-- src/queue.rt:126:5
 loop-again : tie.Need-loop-again Inv-loop μ-loop
 loop-again c = search applying-more
 
--- src/queue.rt:102:1
+-- src/queue.rt:117:1
 same-length : tie.Need-same-length Inv-loop μ-loop
 same-length c = search needs
 
--- src/queue.rt:102:1
+-- src/queue.rt:117:1
 returns : tie.Need-returns Inv-loop μ-loop
 returns c = (search applied-all, (search applied-flag, search applied-frame))
 

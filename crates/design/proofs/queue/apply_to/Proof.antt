@@ -9,27 +9,27 @@ use Rattle.design.proofs.queue.record_eq.Reads as record-eq-reads
 use Rattle.design.proofs.visit.plain.Reads as plain-reads
 use Rattle.netlist.proofs.record_in.Reads as record-in-reads
 
--- src/queue.rt:118:28
+-- src/queue.rt:111:28
 record-in-requires : tie.Need-record-in-requires
 record-in-requires c κs = search needs
 
--- src/queue.rt:118:9
+-- src/queue.rt:111:9
 plain-requires : tie.Need-plain-requires
 plain-requires c κs = search needs
 
--- src/queue.rt:119:9
+-- src/queue.rt:112:9
 put-replaced-requires : tie.Need-put-replaced-requires
 put-replaced-requires c κs = search needs
 
--- src/queue.rt:120:6
+-- src/queue.rt:113:6
 record-eq-requires : tie.Need-record-eq-requires
 record-eq-requires c κs = search needs
 
--- src/queue.rt:115:1
+-- src/queue.rt:108:1
 same-length : tie.Need-same-length
 same-length c = search needs
 
--- src/queue.rt:115:1
+-- src/queue.rt:108:1
 returns : tie.Need-returns
 returns c = search applies
 

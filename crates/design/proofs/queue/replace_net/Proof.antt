@@ -6,23 +6,23 @@ use Rattle.design.proofs.queue.replace_net.Reads as reads
 use Rattle.design.proofs.queue.replace_net.Lts as lts
 use Rattle.cell.proofs.put.Reads as put-reads
 
--- src/queue.rt:40:22
+-- src/queue.rt:39:29
 cast-put : tie.Need-cast-put
 cast-put c = search needs
 
--- src/queue.rt:40:21
+-- src/queue.rt:39:21
 add-put : tie.Need-add-put
 add-put c = search needs
 
--- src/queue.rt:40:5
+-- src/queue.rt:39:5
 put-requires : tie.Need-put-requires
 put-requires c κs = search needs
 
--- src/queue.rt:33:1
+-- src/queue.rt:32:1
 same-length : tie.Need-same-length
 same-length c = search needs
 
--- src/queue.rt:33:1
+-- src/queue.rt:32:1
 returns : tie.Need-returns
 returns c = (search replaces, search replaces-frame)
 

@@ -5,7 +5,7 @@ use Rattle.rewriter.proofs.run.run_item.Statement.{statement}
 use Rattle.rewriter.proofs.run.run_item.Tie as tie
 use Rattle.rewriter.proofs.run.run_item.Reads as reads
 use Rattle.rewriter.proofs.run.run_item.Lts as lts
-use Rattle.design.proofs.compact.has_effects.Reads as has-effects-reads
+use Rattle.netlist.proofs.has_effects.Reads as has-effects-reads
 use Rattle.rewriter.proofs.run.is_splittable.Reads as is-splittable-reads
 use Rattle.rewriter.proofs.run.mapped_cell.Reads as mapped-cell-reads
 use Rattle.rewriter.proofs.run.run_bit.Reads as run-bit-reads

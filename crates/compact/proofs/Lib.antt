@@ -1,0 +1,4 @@
+pub mod Lists
+pub mod Compacting
+pub mod Keeping
+pub mod Noting

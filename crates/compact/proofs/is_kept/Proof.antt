@@ -1,0 +1,31 @@
+use Rattle.compact.proofs.Compacting.{kept-at}
+use borrow.Author.Needs.{needs}
+use Rattle.compact.proofs.is_kept.Statement.{statement}
+use Rattle.compact.proofs.is_kept.Tie as tie
+use Rattle.compact.proofs.is_kept.Reads as reads
+use Rattle.compact.proofs.is_kept.Lts as lts
+use Rattle.cell.proofs.word.Reads as word-reads
+use Rattle.order.proofs.start_of.Reads as start-of-reads
+
+-- src/lib.rt:62:9
+start-of-requires : tie.Need-start-of-requires
+start-of-requires c κs = search needs
+
+-- src/lib.rt:63:30
+cast-word : tie.Need-cast-word
+cast-word c = search needs
+
+-- src/lib.rt:63:22
+add-word : tie.Need-add-word
+add-word c = search needs
+
+-- src/lib.rt:63:5
+word-requires : tie.Need-word-requires
+word-requires c κs = search needs
+
+-- src/lib.rt:58:1
+returns : tie.Need-returns
+returns c = search kept-at
+
+pub is-kept-spec : {M : Type 1} → statement M
+is-kept-spec = tie.close (tie.spec start-of-requires cast-word add-word word-requires returns)

@@ -1,0 +1,27 @@
+use Rattle.compact.proofs.Noting.{keeps}
+use borrow.Author.Needs.{needs}
+use Rattle.compact.proofs.keep.Statement.{statement}
+use Rattle.compact.proofs.keep.Tie as tie
+use Rattle.compact.proofs.keep.Reads as reads
+use Rattle.compact.proofs.keep.Lts as lts
+use Rattle.compact.proofs.mark_kept.Reads as mark-kept-reads
+use Rattle.compact.proofs.note_kept.Reads as note-kept-reads
+
+-- src/lib.rt:86:5
+mark-kept-requires : tie.Need-mark-kept-requires
+mark-kept-requires c κs = search needs
+
+-- src/lib.rt:87:5
+note-kept-requires : tie.Need-note-kept-requires
+note-kept-requires c κs = search needs
+
+-- src/lib.rt:81:1
+same-length : tie.Need-same-length
+same-length c = search needs
+
+-- src/lib.rt:81:1
+returns : tie.Need-returns
+returns c = search keeps
+
+pub keep-spec : {M : Type 1} → statement M
+keep-spec = tie.close (tie.spec mark-kept-requires note-kept-requires same-length returns)

@@ -1,0 +1,49 @@
+use Rattle.compact.proofs.Compacting.{map-const, map-cell}
+use borrow.Author.Needs.{needs}
+use Rattle.compact.proofs.net_map.Statement.{statement}
+use Rattle.compact.proofs.net_map.Tie as tie
+use Rattle.compact.proofs.net_map.Reads as reads
+use Rattle.compact.proofs.net_map.Lts as lts
+use Rattle.compact.proofs.count_kept.Reads as count-kept-reads
+use Rattle.value.proofs.Net.as_cell_index.Reads as as-cell-index-reads
+use Rattle.value.proofs.Net.from_cell_index.Reads as from-cell-index-reads
+
+-- src/lib.rt:138:11
+as-cell-index-requires : tie.Need-as-cell-index-requires
+as-cell-index-requires c κs = search needs
+
+-- src/lib.rt:139:29
+enum-told : tie.Need-enum-told
+enum-told c = search needs
+
+-- src/lib.rt:140:22
+enum-known-y : tie.Need-enum-known-y
+enum-known-y c = search needs
+
+-- src/lib.rt:140:54
+count-kept-requires : tie.Need-count-kept-requires
+count-kept-requires c κs = search needs
+
+-- src/lib.rt:140:28
+from-cell-index-requires : tie.Need-from-cell-index-requires
+from-cell-index-requires c κs = search needs
+
+-- src/lib.rt:134:1
+returns : tie.Need-returns
+returns c = search map-const
+
+-- src/lib.rt:134:1
+returns-2 : tie.Need-returns-2
+returns-2 c = search map-cell
+
+pub net-map-spec : {M : Type 1} → statement M
+net-map-spec =
+    tie.close
+    (tie.spec
+    as-cell-index-requires
+    enum-told
+    enum-known-y
+    count-kept-requires
+    from-cell-index-requires
+    returns
+    returns-2)

@@ -1,0 +1,51 @@
+use Rattle.design.specs.Fields.{renamedFields}
+use borrow.Author.Needs.{needs}
+use Rattle.compact.proofs.renumbered_record.Statement.{statement}
+use Rattle.compact.proofs.renumbered_record.Tie as tie
+use Rattle.compact.proofs.renumbered_record.Reads as reads
+use Rattle.compact.proofs.renumbered_record.Lts as lts
+use Rattle.compact.proofs.net_map.Reads as net-map-reads
+use Rattle.design.proofs.visit.net_a.Reads as net-a-reads
+use Rattle.design.proofs.visit.net_b.Reads as net-b-reads
+use Rattle.design.proofs.visit.with_nets.Reads as with-nets-reads
+
+-- src/lib.rt:167:30
+net-a-requires : tie.Need-net-a-requires
+net-a-requires c κs = search needs
+
+-- src/lib.rt:167:9
+net-map-requires : tie.Need-net-map-requires
+net-map-requires c κs = search needs
+
+-- src/lib.rt:168:30
+net-b-requires : tie.Need-net-b-requires
+net-b-requires c κs = search needs
+
+-- src/lib.rt:168:9
+net-map-requires-2 : tie.Need-net-map-requires-2
+net-map-requires-2 c κs = search needs
+
+-- src/lib.rt:169:9
+net-map-requires-3 : tie.Need-net-map-requires-3
+net-map-requires-3 c κs = search needs
+
+-- src/lib.rt:170:5
+with-nets-requires : tie.Need-with-nets-requires
+with-nets-requires c κs = search needs
+
+-- src/lib.rt:163:1
+returns : tie.Need-returns
+unfolding renamedFields
+returns c = cc
+
+pub renumbered-record-spec : {M : Type 1} → statement M
+renumbered-record-spec =
+    tie.close
+    (tie.spec
+    net-a-requires
+    net-map-requires
+    net-b-requires
+    net-map-requires-2
+    net-map-requires-3
+    with-nets-requires
+    returns)
