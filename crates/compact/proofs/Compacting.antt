@@ -22,7 +22,7 @@ use Rattle.cell.specs.Tabulate.{tabulate}
 use Rattle.cell.specs.Records.{cellOf, cellRecord, bytesOf}
 use Rattle.cell.proofs.Laws.{sets-append}
 use Rattle.cell.proofs.Lists.{tabulate-at}
-use Rattle.netlist.specs.Areas.{wordRecord, recordsIn, marksIn, visitedAt}
+use Rattle.netlist.specs.Areas.{wordRecord, recordsIn, marksIn, visitedAt, orderAt}
 use Rattle.netlist.specs.Shape.{visitMut}
 use Rattle.netlist.specs.Netlist.{Netlist, slots, those, startOf, cellIn, joined, encode, ticketOf}
 use Rattle.order.specs.Descent.{bitsIn}
@@ -43,11 +43,11 @@ unfolding marksIn
 mark-at n ws s h base = tabulate-at (λ i. not (eqb (getD ws (base + i) 0) 0)) n false s h
 
 -- a slot's mark, where its cell starts
-pub kept-at : (n : ℕ) (ws : List ℕ) (s : ℕ) → s < n → (start : ℕ) → start ≡ startOf (bitsIn (recordsIn n ws)) s → (w : ℕ) → w ≡ getD ws (4096 + start) 0
+pub kept-at : (n : ℕ) (ws : List ℕ) (s : ℕ) → s < n → (start : ℕ) → start ≡ startOf (bitsIn (recordsIn n ws)) s → (w : ℕ) → w ≡ getD ws (visitedAt + start) 0
     → not (eqb w 0) ≡ keptAt n ws s
 unfolding bitsIn
 kept-at n ws s h start e w f =
-    ap (λ (v : ℕ). not (eqb v 0)) f ∙ sym (mark-at n ws start (omega arith) 4096) ∙ ap (λ (k : ℕ). getD (marksIn visitedAt n ws) k false) e
+    ap (λ (v : ℕ). not (eqb v 0)) f ∙ sym (mark-at n ws start (omega arith) visitedAt) ∙ ap (λ (k : ℕ). getD (marksIn visitedAt n ws) k false) e
 
 -- a slot more
 module _ (bits : List ℕ) (marks : List Bool) where
@@ -100,16 +100,16 @@ at-most-one true = omega arith
 at-most-one false = omega arith
 
 module _ (n : ℕ) (ws : List ℕ) (noted : Noted n ws) where
-  pub note-few : (i : ℕ) → i < n → getD ws (5120 + i) 0 ≤ 1
+  pub note-few : (i : ℕ) → i < n → getD ws (orderAt + i) 0 ≤ 1
   note-few i l = rw (noted .each i l) (at-most-one (keptAt n ws i))
 
   module _ (from to i count : ℕ) (g : Counting n ws from to i count) where
-    pub counting-fits : to ≤ n → i < to → count + getD ws (5120 + i) 0 < 4294967296
+    pub counting-fits : to ≤ n → i < to → count + getD ws (orderAt + i) 0 < 4294967296
     counting-fits h l =
         let few : n ≤ 1024 = noted .few in
         let u : count ≤ i = g .few in omega (arith, note-few i (omega arith))
 
-    pub counting-more : to ≤ n → i < to → Counting n ws from to (i + 1) (count + getD ws (5120 + i) 0)
+    pub counting-more : to ≤ n → i < to → Counting n ws from to (i + 1) (count + getD ws (orderAt + i) 0)
     counting-more h l = record {
       upto = omega arith;
       few = let u : count ≤ i = g .few in omega (arith, note-few i (omega arith));
@@ -218,7 +218,7 @@ next-fits n s at ws g =
     let within : s ≤ n = g .within in omega (arith, g .number, kept-few n ws s)
 
 -- a note, as the test that `compact` makes
-pub noted-at : (n : ℕ) (ws : List ℕ) → Noted n ws → (s : ℕ) → s < n → (w : ℕ) → w ≡ getD ws (5120 + s) 0 → not (eqb w 0) ≡ keptAt n ws s
+pub noted-at : (n : ℕ) (ws : List ℕ) → Noted n ws → (s : ℕ) → s < n → (w : ℕ) → w ≡ getD ws (orderAt + s) 0 → not (eqb w 0) ≡ keptAt n ws s
 noted-at n ws noted s l w e = ap (λ (v : ℕ). not (eqb v 0)) (e ∙ noted .each s l) ∙ tested (keptAt n ws s)
   where
     tested : (b : Bool) → not (eqb (cond b 1 0) 0) ≡ b

@@ -1,6 +1,7 @@
 // `Design::compact`: inputs, outputs and the cells that they reach, slot after slot, under new numbers.
 use cell::Record;
 use design::visit;
+use netlist::area;
 use value::Driver;
 use value::Net;
 use value::Slot;
@@ -16,9 +17,6 @@ ghost use Rattle.design.specs.Fields.{renamedFields};
 ghost use Rattle.design.specs.Words.{netlistIn};
 ghost use Rattle.compact.specs.Compact.{keep, compact};
 ghost use Rattle.compact.specs.Words.{renumberedIn, isRoot, rootAt, Marked, Noted, Numbered, Notes, Keeps, keptAt, keptIn, keptBytes};
-
-// Where the notes stand, in the area of the order.
-const NOTES: usize = 5120;
 
 // Whether an input or an output starts in a slot.
 fn is_root(work: &[u32], s: Slot) -> bool
@@ -60,7 +58,7 @@ fn is_kept(work: &[u32], n: u32, s: Slot) -> bool
     ensures { λ r. ⌜ r ≡ keptAt n (now (work .entry)) (s .0) ⌝ }
 {
     let start = order::start_of(work, n, s);
-    cell::word(work, 4096 + (start as usize)) != 0
+    cell::word(work, area::VISITED + (start as usize)) != 0
 }
 
 // Notes of each slot whether it is kept, a word each, so that counting is a plain sum.
@@ -72,7 +70,7 @@ fn note_kept(work: &mut [u32], n: u32)
     let mut s: u32 = 0;
     while s < n {
         let kept = logic::pick32(is_kept(work, n, Slot(s)), 1, 0);
-        cell::put(work, NOTES + (s as usize), kept);
+        cell::put(work, area::ORDER + (s as usize), kept);
         s += 1;
     }
 }
@@ -98,7 +96,7 @@ fn count_between(work: &[u32], n: u32, from: u32, to: u32) -> u32
     let mut i = from as usize;
     let mut count: u32 = 0;
     while i < end {
-        count += work[NOTES + i];
+        count += work[area::ORDER + i];
         i += 1;
     }
     count
@@ -156,7 +154,7 @@ fn is_noted(work: &[u32], n: u32, s: Slot) -> bool
     requires { ⌜ s .0 < n ⌝ }
     ensures { λ r. ⌜ r ≡ keptAt n (now (work .entry)) (s .0) ⌝ }
 {
-    cell::word(work, NOTES + (s.0 as usize)) != 0
+    cell::word(work, area::ORDER + (s.0 as usize)) != 0
 }
 
 // The record of slot s with the new numbers of its operands; its own is `at`.

@@ -5,7 +5,7 @@ use Prim.Native.Nat.{ℕ}
 use native.Mathlib.Omega.{arith}
 use Rattle.cell.specs.declared.Record.{Record}
 use Rattle.cell.specs.Records.{recordsOf}
-use Rattle.netlist.specs.Areas.{recordsIn, Within}
+use Rattle.netlist.specs.Areas.{recordsIn, Within, visitedAt}
 use Rattle.netlist.specs.Netlist.{netlistOf}
 use Rattle.netlist.proofs.Frames.{within-drop}
 use Rattle.compact.specs.Compact.{compact}
@@ -15,9 +15,9 @@ use Rattle.delivery.specs.Delivery.{Delivers}
 use Rattle.delivery.proofs.Delivering.{delivers-from}
 
 pub loaded-delivers : (t : List ℕ) (n : ℕ) (ws₀ ws ws′ reply reply′ : List ℕ) (r : Written)
-    → Delivers (encoded (compact (netlistOf (recordsIn n ws)))) ws ws′ reply reply′ r → recordsIn n ws ≡ recordsOf t → Within 0 4096 ws₀ ws
+    → Delivers (encoded (compact (netlistOf (recordsIn n ws)))) ws ws′ reply reply′ r → recordsIn n ws ≡ recordsOf t → Within 0 visitedAt ws₀ ws
     → Delivers (compactBytes t) ws₀ ws′ reply reply′ r
 unfolding compactBytes
 loaded-delivers t n ws₀ ws ws′ reply reply′ r d loaded frame =
     delivers-from (encoded (compact (netlistOf (recordsIn n ws)))) (compactBytes t) ws₀ ws ws′ reply reply′ r
-    (ap (λ (rs : List Record). encoded (compact (netlistOf rs))) loaded) (within-drop 0 4096 16384 ws₀ ws (omega arith) frame) d
+    (ap (λ (rs : List Record). encoded (compact (netlistOf rs))) loaded) (within-drop 0 visitedAt 16384 ws₀ ws (omega arith) frame) d

@@ -21,6 +21,7 @@ use Rattle.calls.specs.declared.Written.{Written}
 use Rattle.calls.specs.declared.Written.the-variants.{Accepted, Refused}
 use Rattle.calls.specs.Calls.{put, room, encoded}
 use Rattle.delivery.specs.Delivery.{Delivers}
+use Rattle.netlist.specs.Areas.{replacedAt, visitedAt}
 
 -- bytes of which the count is known: 12, or they are written
 module _ (bytes ws₀ ws reply : List ℕ) (count : ℕ) (size : length bytes ≡ count) (kept : drop 16384 ws ≡ drop 16384 ws₀) where
@@ -55,7 +56,7 @@ module _ (n : ℕ) (ws₀ ws : List ℕ) (g : Keeps n ws₀ ws) (k : ℕ) (k-is 
   same-result = ap (λ (rs : List Record). encoded (compact (netlistOf rs))) (g .records)
 
   behind : drop 16384 ws ≡ drop 16384 ws₀
-  behind = within-drop 4096 6144 16384 ws₀ ws (omega arith) (g .frame)
+  behind = within-drop visitedAt replacedAt 16384 ws₀ ws (omega arith) (g .frame)
 
   size : length (result ws₀) ≡ k * 16
   size = ap length (sym same-result) ∙ compact-length n ws (g .marks) ∙ ap (λ (m : ℕ). m * 16) (sym k-is)

@@ -16,7 +16,7 @@ use Rattle.cell.specs.declared.Cell.the-variants.{Input, Output, Buf, Not, And,
 use Rattle.cell.specs.Tabulate.{tabulate}
 use Rattle.cell.specs.Records.{recordOf, cellOf, cellRecord}
 use Rattle.cell.proofs.RoundTrips.{cell-back}
-use Rattle.netlist.specs.Areas.{wordRecord, storeWords, recordsIn, Within}
+use Rattle.netlist.specs.Areas.{wordRecord, storeWords, recordsIn, Within, visitedAt}
 use Rattle.netlist.specs.Shape.{visit, visitMut}
 use Rattle.netlist.specs.Netlist.{Netlist, netlistOf, slots, anyOf}
 use Rattle.netlist.proofs.Frames.{within-none, within-then, within-wider, tabulate-same}
@@ -104,7 +104,7 @@ pub record Applying (n : ℕ) (ws₀ ws : List ℕ) (changed : Bool) (s : ℕ) :
   pub done : (u : ℕ) → u < s → wordRecord ws u ≡ replacedRecord n ws₀ u
   pub left : (u : ℕ) → s ≤ u → wordRecord ws u ≡ wordRecord ws₀ u
   pub flag : changed ≡ anyOf (changesIn n ws₀) (slots s)
-  pub frame : Within 0 4096 ws₀ ws
+  pub frame : Within 0 visitedAt ws₀ ws
 
 pub applying-none : (n : ℕ) (ws : List ℕ) → n ≤ 1024 → 16384 ≤ length ws → Applying n ws ws false 0
 unfolding tabulate anyOf
@@ -115,7 +115,7 @@ applying-none n ws few long = record {
   done = λ u l. absurd (omega arith);
   left = λ u l. refl;
   flag = refl;
-  frame = within-none 0 4096 ws;
+  frame = within-none 0 visitedAt ws;
 }
 
 module _ (n : ℕ) (ws₀ ws : List ℕ) (changed : Bool) (s : ℕ) (g : Applying n ws₀ ws changed s) where
@@ -150,9 +150,9 @@ module _ (n : ℕ) (ws₀ ws : List ℕ) (changed : Bool) (s : ℕ) (g : Applyin
       flag = rw (add-one s) (e ∙ ap₂ _||_ (g .flag) (a .changed ∙ same-change) ∙ sym (any-more (changesIn n ws₀) (slots s) s));
       frame =
           let few : n ≤ 1024 = g .few in
-          within-then 0 4096 ws₀ ws ws′ (g .frame)
-          (subst (λ (vs : List ℕ). Within 0 4096 ws vs) (sym (a .stored))
-          (within-wider (s * 4) (s * 4 + 4) 0 4096 ws (storeWords ws s (replacedRecord n ws s)) (omega arith) (omega arith) (store-within ws s (replacedRecord n ws s))));
+          within-then 0 visitedAt ws₀ ws ws′ (g .frame)
+          (subst (λ (vs : List ℕ). Within 0 visitedAt ws vs) (sym (a .stored))
+          (within-wider (s * 4) (s * 4 + 4) 0 visitedAt ws (storeWords ws s (replacedRecord n ws s)) (omega arith) (omega arith) (store-within ws s (replacedRecord n ws s))));
     }
       where
         go : (u : ℕ) → u < s + 1 → Dec (u < s) → wordRecord ws′ u ≡ replacedRecord n ws₀ u
@@ -188,5 +188,5 @@ module _ (n : ℕ) (ws₀ ws : List ℕ) (changed : Bool) (s : ℕ) (g : Applyin
         g .flag ∙ ap (λ (k : ℕ). anyOf (changesIn n ws₀) (slots k)) (let e : s ≡ n = let u : s ≤ n = g .upto in omega arith in e)
         ∙ sym (ap (anyOf p) (map-table (wordRecord ws₀) cellOf n) ∙ any-table (λ u. cellOf (wordRecord ws₀ u)) p n)
 
-  pub applied-frame : Within 0 4096 ws₀ ws
+  pub applied-frame : Within 0 visitedAt ws₀ ws
   applied-frame = g .frame

@@ -20,7 +20,7 @@ use Rattle.cell.specs.declared.Cell.{Cell}
 use Rattle.cell.specs.declared.Cell.the-variants.{Input, Output, Buf, Not, And, Or, Xor, Mux, Aig}
 use Rattle.cell.specs.Tabulate.{tabulate}
 use Rattle.cell.specs.Records.{cellRecord}
-use Rattle.netlist.specs.Areas.{Within}
+use Rattle.netlist.specs.Areas.{Within, figuresAt, replacedAt}
 use Rattle.netlist.specs.Shape.{visit, visitMut}
 use Rattle.netlist.specs.Netlist.{anyOf}
 use Rattle.netlist.proofs.Frames.{within-none, within-then, within-set, tabulate-same}
@@ -35,7 +35,7 @@ module _ (n : ℕ) (ws : List ℕ) (x : Net) (d : Driver) (d-is : d ≡ driver x
   step-const t e = rw (← d-is, e)
 
   module _ (s : Slot) (e : d ≡ driven.Cell s) where
-    pub step-cell : s .0 < n → (w : ℕ) → w ≡ getD ws (6144 + s .0) 0 → netAt w ≡ drivenTo (replacedIn n ws) x (driver x)
+    pub step-cell : s .0 < n → (w : ℕ) → w ≡ getD ws (replacedAt + s .0) 0 → netAt w ≡ drivenTo (replacedIn n ws) x (driver x)
     step-cell h w f = rw (← d-is, e, f) (sym (replaced-at n ws (s .0) h x))
 
     pub step-past : n ≤ s .0 → x ≡ drivenTo (replacedIn n ws) x (driver x)
@@ -71,51 +71,51 @@ pub record Unchanging (n : ℕ) (ws₀ ws : List ℕ) (s : ℕ) : Type 0 where
   pub upto : s ≤ n
   pub few : n ≤ 1024
   pub long : 16384 ≤ length ws₀
-  pub each : (u : ℕ) → u < s → getD ws (6144 + u) 0 ≡ u + 2
-  pub frame : Within 6144 7168 ws₀ ws
+  pub each : (u : ℕ) → u < s → getD ws (replacedAt + u) 0 ≡ u + 2
+  pub frame : Within replacedAt figuresAt ws₀ ws
 
 pub unchanging-none : (n : ℕ) (ws : List ℕ) → n ≤ 1024 → 16384 ≤ length ws → Unchanging n ws ws 0
-unchanging-none n ws few long = record { upto = omega arith; few = few; long = long; each = λ u l. absurd (omega arith); frame = within-none 6144 7168 ws }
+unchanging-none n ws few long = record { upto = omega arith; few = few; long = long; each = λ u l. absurd (omega arith); frame = within-none replacedAt figuresAt ws }
 
 module _ (n : ℕ) (ws₀ ws : List ℕ) (s : ℕ) (g : Unchanging n ws₀ ws s) where
-  pub unchanging-more : (ws′ : List ℕ) (x : Net) → s < n → x ≡ netIn s → ws′ ≡ set ws (6144 + s) (x .0) → Unchanging n ws₀ ws′ (s + 1)
+  pub unchanging-more : (ws′ : List ℕ) (x : Net) → s < n → x ≡ netIn s → ws′ ≡ set ws (replacedAt + s) (x .0) → Unchanging n ws₀ ws′ (s + 1)
   unchanging-more ws′ x l x-is e =
       let few : n ≤ 1024 = g .few in
-      let f : ws′ ≡ set ws (6144 + s) (s + 2) = e ∙ ap (λ (y : Net). set ws (6144 + s) (y .0)) x-is in
+      let f : ws′ ≡ set ws (replacedAt + s) (s + 2) = e ∙ ap (λ (y : Net). set ws (replacedAt + s) (y .0)) x-is in
       subst (λ (vs : List ℕ). Unchanging n ws₀ vs (s + 1)) (sym f) (record {
         upto = omega arith;
         few = g .few;
         long = g .long;
         each = λ u m. go u m (decLt u s);
-        frame = within-then 6144 7168 ws₀ ws (set ws (6144 + s) (s + 2)) (g .frame) (within-set 6144 7168 ws (6144 + s) (s + 2) (omega arith) (omega arith));
+        frame = within-then replacedAt figuresAt ws₀ ws (set ws (replacedAt + s) (s + 2)) (g .frame) (within-set replacedAt figuresAt ws (replacedAt + s) (s + 2) (omega arith) (omega arith));
       })
     where
-      go : (u : ℕ) → u < s + 1 → Dec (u < s) → getD (set ws (6144 + s) (s + 2)) (6144 + u) 0 ≡ u + 2
-      go u m (yes k) = getD-set-other ws (6144 + s) (6144 + u) (s + 2) 0 (λ q. absurd (omega arith)) ∙ g .each u k
+      go : (u : ℕ) → u < s + 1 → Dec (u < s) → getD (set ws (replacedAt + s) (s + 2)) (replacedAt + u) 0 ≡ u + 2
+      go u m (yes k) = getD-set-other ws (replacedAt + s) (replacedAt + u) (s + 2) 0 (λ q. absurd (omega arith)) ∙ g .each u k
       go u m (no k) =
           let q : s ≡ u = omega arith in
           let few : n ≤ 1024 = g .few in
           let long : 16384 ≤ length ws₀ = g .long in
-          subst (λ (v : ℕ). getD (set ws (6144 + s) (s + 2)) (6144 + v) 0 ≡ v + 2) q (getD-set-same ws (6144 + s) (s + 2) 0 (omega (arith, g .frame .same)))
+          subst (λ (v : ℕ). getD (set ws (replacedAt + s) (s + 2)) (replacedAt + v) 0 ≡ v + 2) q (getD-set-same ws (replacedAt + s) (s + 2) 0 (omega (arith, g .frame .same)))
 
   pub unchanging-all : n ≤ s → replacedIn n ws ≡ tabulate netIn n
   unfolding replacedIn
-  unchanging-all h = tabulate-same (λ i. netAt (getD ws (6144 + i) 0)) netIn n (λ u l. ap netAt (g .each u (omega arith)))
+  unchanging-all h = tabulate-same (λ i. netAt (getD ws (replacedAt + i) 0)) netIn n (λ u l. ap netAt (g .each u (omega arith)))
 
-  pub unchanging-frame : Within 6144 7168 ws₀ ws
+  pub unchanging-frame : Within replacedAt figuresAt ws₀ ws
   unchanging-frame = g .frame
 
 -- one net replaced
-module _ (n : ℕ) (ws ws′ : List ℕ) (s : Slot) (x : Net) (e : ws′ ≡ set ws (6144 + s .0) (x .0)) (few : n ≤ 1024) (l : s .0 < n) where
+module _ (n : ℕ) (ws ws′ : List ℕ) (s : Slot) (x : Net) (e : ws′ ≡ set ws (replacedAt + s .0) (x .0)) (few : n ≤ 1024) (l : s .0 < n) where
   pub replaces : 16384 ≤ length ws → replacedIn n ws′ ≡ set (replacedIn n ws) (s .0) x
   unfolding replacedIn
   replaces long =
-      rw e (tabulate-set x (λ i. netAt (getD ws (6144 + i) 0)) (λ i. netAt (getD (set ws (6144 + s .0) (x .0)) (6144 + i) 0)) n (s .0) x l
-      (ap netAt (getD-set-same ws (6144 + s .0) (x .0) 0 (omega arith)))
-      (λ j h. ap netAt (getD-set-other ws (6144 + s .0) (6144 + j) (x .0) 0 (λ q. h (omega arith)))))
+      rw e (tabulate-set x (λ i. netAt (getD ws (replacedAt + i) 0)) (λ i. netAt (getD (set ws (replacedAt + s .0) (x .0)) (replacedAt + i) 0)) n (s .0) x l
+      (ap netAt (getD-set-same ws (replacedAt + s .0) (x .0) 0 (omega arith)))
+      (λ j h. ap netAt (getD-set-other ws (replacedAt + s .0) (replacedAt + j) (x .0) 0 (λ q. h (omega arith)))))
 
-  pub replaces-frame : Within 6144 7168 ws ws′
-  replaces-frame = rw e (within-set 6144 7168 ws (6144 + s .0) (x .0) (omega arith) (omega arith))
+  pub replaces-frame : Within replacedAt figuresAt ws ws′
+  replaces-frame = rw e (within-set replacedAt figuresAt ws (replacedAt + s .0) (x .0) (omega arith) (omega arith))
 
 -- a cell whose operands a function changes is another cell
 same-1 : (p : Bool) → cond (not p) true false ≡ not (true && true && p && true && true)

@@ -9,7 +9,7 @@ use Rattle.value.specs.Value.{netAt}
 use Rattle.cell.specs.declared.Record.{Record}
 use Rattle.cell.specs.Records.{recordOf, cellOf}
 use Rattle.cell.proofs.Lists.{tabulate-length, tabulate-at}
-use Rattle.netlist.specs.Areas.{wordRecord, recordsIn, Within}
+use Rattle.netlist.specs.Areas.{wordRecord, recordsIn, Within, replacedAt, visitedAt}
 use Rattle.netlist.specs.Netlist.{cellIn, netlistOf}
 use Rattle.netlist.proofs.Frames.{tabulate-same}
 use Rattle.order.proofs.Bits.{cells-length as records-cells-length, cell-at as records-cell-at}
@@ -42,18 +42,18 @@ module _ (n : ℕ) (ws : List ℕ) where
     unfolding netlistOf
     cell-at = records-cell-at n ws s h
 
-    pub replaced-at : (x : Net) → getD (replacedIn n ws) s x ≡ netAt (getD ws (6144 + s) 0)
+    pub replaced-at : (x : Net) → getD (replacedIn n ws) s x ≡ netAt (getD ws (replacedAt + s) 0)
     unfolding replacedIn
-    replaced-at x = tabulate-at (λ i. netAt (getD ws (6144 + i) 0)) n x s h
+    replaced-at x = tabulate-at (λ i. netAt (getD ws (replacedAt + i) 0)) n x s h
 
   pub replaced-length : length (replacedIn n ws) ≡ n
   unfolding replacedIn
-  replaced-length = tabulate-length (λ i. netAt (getD ws (6144 + i) 0)) n
+  replaced-length = tabulate-length (λ i. netAt (getD ws (replacedAt + i) 0)) n
 
   pub replaced-past : (s : ℕ) (x : Net) → n ≤ s → getD (replacedIn n ws) s x ≡ x
   replaced-past s x h = List·getD-eq-default (replacedIn n ws) x (omega (arith, replaced-length))
 
 -- stores into the slots leave the replaced nets alone
-pub replaced-kept : (n : ℕ) (ws ws′ : List ℕ) → Within 0 4096 ws ws′ → replacedIn n ws′ ≡ replacedIn n ws
+pub replaced-kept : (n : ℕ) (ws ws′ : List ℕ) → Within 0 visitedAt ws ws′ → replacedIn n ws′ ≡ replacedIn n ws
 unfolding replacedIn
-replaced-kept n ws ws′ p = tabulate-same (λ i. netAt (getD ws′ (6144 + i) 0)) (λ i. netAt (getD ws (6144 + i) 0)) n (λ i l. ap netAt (p .after (6144 + i) (omega arith)))
+replaced-kept n ws ws′ p = tabulate-same (λ i. netAt (getD ws′ (replacedAt + i) 0)) (λ i. netAt (getD ws (replacedAt + i) 0)) n (λ i l. ap netAt (p .after (replacedAt + i) (omega arith)))

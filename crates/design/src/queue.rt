@@ -1,6 +1,7 @@
 // Replaced nets, a word a slot. A net that is not replaced stands for itself.
 use crate::visit;
 use cell::Record;
+use netlist::area;
 use value::Driver;
 use value::Net;
 use value::Slot;
@@ -9,7 +10,7 @@ ghost use Prim.Native.Nat.{_≤_, _<_};
 ghost use lib.ListN.{length, set};
 ghost use Rattle.value.specs.Value.{driver};
 ghost use Rattle.cell.specs.Tabulate.{tabulate};
-ghost use Rattle.netlist.specs.Areas.{storeWords, Within};
+ghost use Rattle.netlist.specs.Areas.{storeWords, Within, figuresAt, replacedAt, visitedAt};
 ghost use Rattle.design.specs.Queue.{netIn, drivenTo, mapNetNew, eqRecord, didChange};
 ghost use Rattle.design.specs.Fields.{renamedFields};
 ghost use Rattle.design.specs.Words.{netlistIn, replacedIn, designIn, appliedIn, Applies};
@@ -19,11 +20,15 @@ pub fn unchanged(work: &mut [u32], n: u32)
     requires { ⌜ 16384 ≤ length (now work) ⌝ }
     requires { ⌜ n ≤ 1024 ⌝ }
     ensures { λ _. ⌜ replacedIn n (now (work .exit)) ≡ tabulate netIn n ⌝ }
-    ensures { λ _. ⌜ Within 6144 7168 (now (work .entry)) (now (work .exit)) ⌝ }
+    ensures { λ _. ⌜ Within replacedAt figuresAt (now (work .entry)) (now (work .exit)) ⌝ }
 {
     let mut s: u32 = 0;
     while s < n {
-        cell::put(work, 6144 + (s as usize), Net::from_cell_index(Slot(s)).0);
+        cell::put(
+            work,
+            area::REPLACED + (s as usize),
+            Net::from_cell_index(Slot(s)).0,
+        );
         s += 1;
     }
 }
@@ -34,9 +39,9 @@ pub fn replace_net(work: &mut [u32], n: u32, s: Slot, x: Net)
     requires { ⌜ n ≤ 1024 ⌝ }
     requires { ⌜ s .0 < n ⌝ }
     ensures { λ _. ⌜ replacedIn n (now (work .exit)) ≡ set (replacedIn n (now (work .entry))) (s .0) x ⌝ }
-    ensures { λ _. ⌜ Within 6144 7168 (now (work .entry)) (now (work .exit)) ⌝ }
+    ensures { λ _. ⌜ Within replacedAt figuresAt (now (work .entry)) (now (work .exit)) ⌝ }
 {
-    cell::put(work, 6144 + (s.0 as usize), x.0);
+    cell::put(work, area::REPLACED + (s.0 as usize), x.0);
 }
 
 // What a net is replaced by, in one step.
@@ -47,7 +52,7 @@ fn replaced_by(work: &[u32], n: u32, x: Net) -> Net
         Driver::Const(_) => x,
         Driver::Cell(s) => {
             if s.0 < n {
-                return Net(cell::word(work, 6144 + (s.0 as usize)));
+                return Net(cell::word(work, area::REPLACED + (s.0 as usize)));
             }
             x
         }
@@ -119,7 +124,7 @@ pub fn apply(work: &mut [u32], n: u32) -> bool
     requires { ⌜ n ≤ 1024 ⌝ }
     ensures { λ _. ⌜ netlistIn n (now (work .exit)) ≡ appliedIn n (now (work .entry)) ⌝ }
     ensures { λ r. ⌜ r ≡ didChange (designIn n (now (work .entry))) ⌝ }
-    ensures { λ _. ⌜ Within 0 4096 (now (work .entry)) (now (work .exit)) ⌝ }
+    ensures { λ _. ⌜ Within 0 visitedAt (now (work .entry)) (now (work .exit)) ⌝ }
 {
     let mut changed = false;
     let mut s: u32 = 0;

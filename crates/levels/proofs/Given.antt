@@ -19,7 +19,7 @@ use Rattle.cell.specs.declared.Cell.{Cell}
 use Rattle.cell.specs.Records.{cellOf}
 use Rattle.netlist.specs.Shape.{isInput}
 use Rattle.netlist.specs.Netlist.{cellIn}
-use Rattle.netlist.specs.Areas.{wordRecord, wordsIn, Within}
+use Rattle.netlist.specs.Areas.{wordRecord, wordsIn, Within, figuresAt, mixesAt, orderAt, replacedAt, visitedAt}
 use Rattle.netlist.proofs.Frames.{within-none, within-then, within-wider, record-kept, records-kept, words-kept}
 use Rattle.order.specs.Orders.{topoSort}
 use Rattle.order.specs.Code.{Sorts}
@@ -43,11 +43,11 @@ stimulus-past bs k h = rw (List·getD-eq-default bs 2 h)
 
 -- one slot, by its kind
 module _ (ws : List ℕ) (s : ℕ) (r : Record) (r-is : r ≡ wordRecord ws s) (bs : List ℕ) (k : ℕ) (ws′ : List ℕ) where
-  pub taken-level : r .kind ≡ 1 → (t : Trit) → t ≡ levelOf (getD bs k 2) → ws′ ≡ set ws (7168 + s) (byteOf t)
-      → ws′ ≡ set ws (7168 + s) (byteOf (placedLevel ws s bs k))
-  taken-level e t f g = rw (of-kind ws s r r-is 1 e) (g ∙ ap (λ (x : Trit). set ws (7168 + s) (byteOf x)) f)
+  pub taken-level : r .kind ≡ 1 → (t : Trit) → t ≡ levelOf (getD bs k 2) → ws′ ≡ set ws (figuresAt + s) (byteOf t)
+      → ws′ ≡ set ws (figuresAt + s) (byteOf (placedLevel ws s bs k))
+  taken-level e t f g = rw (of-kind ws s r r-is 1 e) (g ∙ ap (λ (x : Trit). set ws (figuresAt + s) (byteOf x)) f)
 
-  pub passed-level : (r .kind ≡ 1 → ⊥) → ws′ ≡ set ws (7168 + s) (byteOf Undef) → ws′ ≡ set ws (7168 + s) (byteOf (placedLevel ws s bs k))
+  pub passed-level : (r .kind ≡ 1 → ⊥) → ws′ ≡ set ws (figuresAt + s) (byteOf Undef) → ws′ ≡ set ws (figuresAt + s) (byteOf (placedLevel ws s bs k))
   passed-level e g = rw (of-another ws s r r-is 1 e) g
 
 -- how many inputs stand before a slot
@@ -86,19 +86,19 @@ pub record Placing (n : ℕ) (bs ws₀ ws : List ℕ) (s k : ℕ) : Type 0 where
   pub long : 16384 ≤ length ws₀
   pub small : k ≤ s
   pub counted : k ≡ inputsBefore (cellsIn n ws₀) s
-  pub placed : (u : ℕ) → u < s → levelOf (getD ws (7168 + u) 0) ≡ getD (givenLevels (cellsIn n ws₀) bs) u Undef
-  pub frame : Within 7168 8192 ws₀ ws
+  pub placed : (u : ℕ) → u < s → levelOf (getD ws (figuresAt + u) 0) ≡ getD (givenLevels (cellsIn n ws₀) bs) u Undef
+  pub frame : Within figuresAt mixesAt ws₀ ws
 
 pub placing-none : (n : ℕ) (bs ws : List ℕ) → 16384 ≤ length ws → Placing n bs ws ws 0 0
 unfolding inputsBefore
 placing-none n bs ws h =
-    record { upto = omega arith; long = h; small = omega arith; counted = refl; placed = λ u l. absurd (omega arith); frame = within-none 7168 8192 ws }
+    record { upto = omega arith; long = h; small = omega arith; counted = refl; placed = λ u l. absurd (omega arith); frame = within-none figuresAt mixesAt ws }
 
 module _ (n : ℕ) (bs ws₀ ws : List ℕ) (s k : ℕ) (g : Placing n bs ws₀ ws s k) where
   module _ (few : n ≤ 512) (l : s < n) where
     is-input : inputAt ws s ≡ isInput (cellIn (cellsIn n ws₀) s)
     is-input =
-        ap (λ (x : Record). eqb (x .kind) 1) (record-kept 7168 8192 ws₀ ws (g .frame) s (inl (omega arith)))
+        ap (λ (x : Record). eqb (x .kind) 1) (record-kept figuresAt mixesAt ws₀ ws (g .frame) s (inl (omega arith)))
         ∙ sym (ap isInput (cells-at n ws₀ s l) ∙ input-kind (wordRecord ws₀ s))
 
     is-given : placedLevel ws s bs k ≡ getD (givenLevels (cellsIn n ws₀) bs) s Undef
@@ -106,7 +106,7 @@ module _ (n : ℕ) (bs ws₀ ws : List ℕ) (s k : ℕ) (g : Placing n bs ws₀ 
         ap₂ (λ (b : Bool) (i : ℕ). cond b (levelOf (getD bs i 2)) Undef) is-input (g .counted)
         ∙ sym (given-at (cellsIn n ws₀) bs s (let q : length (cellsIn n ws₀) ≡ n = cells-length n ws₀ in omega arith))
 
-    pub placing-more : (ws′ : List ℕ) → ws′ ≡ set ws (7168 + s) (byteOf (placedLevel ws s bs k)) → (j : ℕ) → j ≡ cond (inputAt ws s) 1 0 → j ≤ 1
+    pub placing-more : (ws′ : List ℕ) → ws′ ≡ set ws (figuresAt + s) (byteOf (placedLevel ws s bs k)) → (j : ℕ) → j ≡ cond (inputAt ws s) 1 0 → j ≤ 1
         → Placing n bs ws₀ ws′ (s + 1) (k + j)
     placing-more ws′ h j q one =
         let t : Trit = placedLevel ws s bs k in
@@ -120,17 +120,17 @@ module _ (n : ℕ) (bs ws₀ ws : List ℕ) (s k : ℕ) (g : Placing n bs ws₀ 
               ∙ sym (before-more (cellsIn n ws₀) s (let y : length (cellsIn n ws₀) ≡ n = cells-length n ws₀ in omega arith))
               ∙ ap (inputsBefore (cellsIn n ws₀)) (sym (add-one s));
           placed = λ u m. go u m long (decLt u s);
-          frame = within-then 7168 8192 ws₀ ws (set ws (7168 + s) (byteOf t)) (g .frame) (put-within ws s (byteOf t) (omega arith));
+          frame = within-then figuresAt mixesAt ws₀ ws (set ws (figuresAt + s) (byteOf t)) (g .frame) (put-within ws s (byteOf t) (omega arith));
         })
       where
         go : (u : ℕ) → u < s + 1 → 16384 ≤ length ws → Dec (u < s)
-            → levelOf (getD (set ws (7168 + s) (byteOf (placedLevel ws s bs k))) (7168 + u) 0) ≡ getD (givenLevels (cellsIn n ws₀) bs) u Undef
+            → levelOf (getD (set ws (figuresAt + s) (byteOf (placedLevel ws s bs k))) (figuresAt + u) 0) ≡ getD (givenLevels (cellsIn n ws₀) bs) u Undef
         go u m long (yes p) =
-            ap levelOf (getD-set-other ws (7168 + s) (7168 + u) (byteOf (placedLevel ws s bs k)) 0 (λ q. absurd (omega arith))) ∙ g .placed u p
+            ap levelOf (getD-set-other ws (figuresAt + s) (figuresAt + u) (byteOf (placedLevel ws s bs k)) 0 (λ q. absurd (omega arith))) ∙ g .placed u p
         go u m long (no p) =
             let q : s ≡ u = omega arith in
-            subst (λ (v : ℕ). levelOf (getD (set ws (7168 + s) (byteOf (placedLevel ws s bs k))) (7168 + v) 0) ≡ getD (givenLevels (cellsIn n ws₀) bs) v Undef) q
-            (ap levelOf (getD-set-same ws (7168 + s) (byteOf (placedLevel ws s bs k)) 0 (omega arith)) ∙ level-byte (placedLevel ws s bs k) ∙ is-given)
+            subst (λ (v : ℕ). levelOf (getD (set ws (figuresAt + s) (byteOf (placedLevel ws s bs k))) (figuresAt + v) 0) ≡ getD (givenLevels (cellsIn n ws₀) bs) v Undef) q
+            (ap levelOf (getD-set-same ws (figuresAt + s) (byteOf (placedLevel ws s bs k)) 0 (omega arith)) ∙ level-byte (placedLevel ws s bs k) ∙ is-given)
 
   pub placing-all : n ≤ s → levelsAt n ws ≡ givenLevels (cellsIn n ws₀) bs
   placing-all h =
@@ -138,26 +138,26 @@ module _ (n : ℕ) (bs ws₀ ws : List ℕ) (s k : ℕ) (g : Placing n bs ws₀ 
       (levels-length n ws ∙ sym (given-length (cellsIn n ws₀) bs ∙ cells-length n ws₀))
       (λ u m. let l : u < n = let e : length (levelsAt n ws) ≡ n = levels-length n ws in omega arith in level-read n ws u l ∙ g .placed u (omega arith))
 
-  pub placing-frame : Within 7168 8192 ws₀ ws
+  pub placing-frame : Within figuresAt mixesAt ws₀ ws
   placing-frame = g .frame
 
 -- the bit order, then the stimulus, then the fold
-module _ (n : ℕ) (ws ws₁ ws₂ ws₃ bs : List ℕ) (count : ℕ) (sorted : Sorts n ws ws₁ count) (placed : Within 7168 8192 ws₁ ws₂) where
+module _ (n : ℕ) (ws ws₁ ws₂ ws₃ bs : List ℕ) (count : ℕ) (sorted : Sorts n ws ws₁ count) (placed : Within figuresAt mixesAt ws₁ ws₂) where
   cells-placed : n ≤ 512 → cellsIn n ws₂ ≡ cellsIn n ws
   cells-placed few =
-      ap (map cellOf) (records-kept 7168 8192 ws₁ ws₂ placed n (omega arith) ∙ records-kept 4096 6144 ws ws₁ (sorted .frame) n (omega arith))
+      ap (map cellOf) (records-kept figuresAt mixesAt ws₁ ws₂ placed n (omega arith) ∙ records-kept visitedAt replacedAt ws ws₁ (sorted .frame) n (omega arith))
 
   pub evaluated : n ≤ 512 → levelsAt n ws₂ ≡ givenLevels (cellsIn n ws₁) bs
-      → levelsAt n ws₃ ≡ foldIn (slotLevel (cellsIn n ws₂)) (wordsIn 5120 count ws₂) (levelsAt n ws₂)
+      → levelsAt n ws₃ ≡ foldIn (slotLevel (cellsIn n ws₂)) (wordsIn orderAt count ws₂) (levelsAt n ws₂)
       → levelsAt n ws₃ ≡ bitLevels (cellsIn n ws) (givenLevels (cellsIn n ws) bs)
   unfolding bitLevels
   evaluated few e f =
       f ∙ ap₂ (λ (cs : List Cell) (ss : List ℕ). foldIn (slotLevel cs) ss (levelsAt n ws₂)) (cells-placed few)
-      (words-kept 7168 8192 ws₁ ws₂ placed 5120 count (inl (let q : count ≡ n = sorted .all in omega arith)) ∙ sorted .order)
+      (words-kept figuresAt mixesAt ws₁ ws₂ placed orderAt count (inl (let q : count ≡ n = sorted .all in omega arith)) ∙ sorted .order)
       ∙ ap (foldIn (slotLevel (cellsIn n ws)) (topoSort (cellsIn n ws)))
-      (e ∙ ap (λ (rs : List Record). givenLevels (map cellOf rs) bs) (records-kept 4096 6144 ws ws₁ (sorted .frame) n (omega arith)))
+      (e ∙ ap (λ (rs : List Record). givenLevels (map cellOf rs) bs) (records-kept visitedAt replacedAt ws ws₁ (sorted .frame) n (omega arith)))
 
-  pub evaluated-within : Within 7168 8192 ws₂ ws₃ → Within 4096 8192 ws ws₃
+  pub evaluated-within : Within figuresAt mixesAt ws₂ ws₃ → Within visitedAt mixesAt ws ws₃
   evaluated-within w =
-      within-then 4096 8192 ws ws₁ ws₃ (within-wider 4096 6144 4096 8192 ws ws₁ (omega arith) (omega arith) (sorted .frame))
-      (within-wider 7168 8192 4096 8192 ws₁ ws₃ (omega arith) (omega arith) (within-then 7168 8192 ws₁ ws₂ ws₃ placed w))
+      within-then visitedAt mixesAt ws ws₁ ws₃ (within-wider visitedAt replacedAt visitedAt mixesAt ws ws₁ (omega arith) (omega arith) (sorted .frame))
+      (within-wider figuresAt mixesAt visitedAt mixesAt ws₁ ws₃ (omega arith) (omega arith) (within-then figuresAt mixesAt ws₁ ws₂ ws₃ placed w))

@@ -1,6 +1,7 @@
 // Levels of a netlist: the evaluator.
 use cell::Cell;
 use logic::Trit;
+use netlist::area;
 use value::ControlNet;
 use value::Driver;
 use value::Net;
@@ -10,13 +11,9 @@ ghost use mathlib.Core.Bool.{cond};
 ghost use Prim.Native.Nat.{_+_, _≤_, _<_};
 ghost use lib.ListN.{length, getD, set};
 ghost use Rattle.logic.specs.Levels.{byteOf, levelOf};
-ghost use Rattle.netlist.specs.Areas.{recordsIn, wordsIn, orderAt, figuresAt, Within};
+ghost use Rattle.netlist.specs.Areas.{recordsIn, wordsIn, orderAt, figuresAt, Within, mixesAt, visitedAt};
 ghost use Rattle.levels.specs.Evaluate.{netLevel, controlLevel, cellLevel, givenLevels};
 ghost use Rattle.levels.specs.Fold.{cellsIn, ofKind, levelsAt, inputAt, placedLevel, foldIn, slotLevel, bitLevels};
-
-const ORDER: usize = 5120;
-
-const LEVELS: usize = 7168;
 
 // How many of the first n records have a kind.
 pub fn count_kind(work: &[u32], n: u32, kind: u8) -> u32
@@ -45,7 +42,7 @@ pub fn level_at(work: &[u32], n: u32, s: Slot) -> Trit
 {
     let i = s.0;
     if i < n {
-        return Trit::from_byte(cell::word(work, LEVELS + (i as usize)));
+        return Trit::from_byte(cell::word(work, area::FIGURES + (i as usize)));
     }
     Trit::Undef
 }
@@ -53,7 +50,7 @@ pub fn level_at(work: &[u32], n: u32, s: Slot) -> Trit
 fn put_level(work: &mut [u32], s: Slot, t: Trit)
     ensures { λ _. ⌜ now (work .exit) ≡ set (now (work .entry)) (figuresAt + s .0) (byteOf t) ⌝ }
 {
-    cell::put(work, LEVELS + (s.0 as usize), t.to_byte());
+    cell::put(work, area::FIGURES + (s.0 as usize), t.to_byte());
 }
 
 fn net_level(work: &[u32], n: u32, x: Net) -> Trit
@@ -99,7 +96,7 @@ fn update(work: &mut [u32], n: u32, s: Slot)
     requires { ⌜ 16384 ≤ length (now work) ⌝ }
     requires { ⌜ n ≤ 512 ⌝ }
     ensures { λ _. ⌜ levelsAt n (now (work .exit)) ≡ set (levelsAt n (now (work .entry))) (s .0) (slotLevel (cellsIn n (now (work .entry))) (levelsAt n (now (work .entry))) (s .0)) ⌝ }
-    ensures { λ _. ⌜ Within 7168 8192 (now (work .entry)) (now (work .exit)) ⌝ }
+    ensures { λ _. ⌜ Within figuresAt mixesAt (now (work .entry)) (now (work .exit)) ⌝ }
 {
     if s.0 < n {
         let own = level_at(work, n, s);
@@ -115,11 +112,11 @@ fn fold(work: &mut [u32], n: u32, count: u32)
     requires { ⌜ n ≤ 512 ⌝ }
     requires { ⌜ count ≤ 1024 ⌝ }
     ensures { λ _. ⌜ levelsAt n (now (work .exit)) ≡ foldIn (slotLevel (cellsIn n (now (work .entry)))) (wordsIn orderAt count (now (work .entry))) (levelsAt n (now (work .entry))) ⌝ }
-    ensures { λ _. ⌜ Within 7168 8192 (now (work .entry)) (now (work .exit)) ⌝ }
+    ensures { λ _. ⌜ Within figuresAt mixesAt (now (work .entry)) (now (work .exit)) ⌝ }
 {
     let mut i: u32 = 0;
     while i < count {
-        let s = cell::word(work, ORDER + (i as usize));
+        let s = cell::word(work, area::ORDER + (i as usize));
         update(work, n, Slot(s));
         i += 1;
     }
@@ -156,7 +153,7 @@ fn place(work: &mut [u32], n: u32, stimulus: &[u8])
     requires { ⌜ 16384 ≤ length (now work) ⌝ }
     requires { ⌜ n ≤ 512 ⌝ }
     ensures { λ _. ⌜ levelsAt n (now (work .exit)) ≡ givenLevels (cellsIn n (now (work .entry))) (now (stimulus .entry)) ⌝ }
-    ensures { λ _. ⌜ Within 7168 8192 (now (work .entry)) (now (work .exit)) ⌝ }
+    ensures { λ _. ⌜ Within figuresAt mixesAt (now (work .entry)) (now (work .exit)) ⌝ }
 {
     let mut s: u32 = 0;
     let mut k: u32 = 0;
@@ -171,7 +168,7 @@ pub fn evaluate(work: &mut [u32], n: u32, stimulus: &[u8])
     requires { ⌜ 16384 ≤ length (now work) ⌝ }
     requires { ⌜ n ≤ 512 ⌝ }
     ensures { λ _. ⌜ levelsAt n (now (work .exit)) ≡ bitLevels (cellsIn n (now (work .entry))) (givenLevels (cellsIn n (now (work .entry))) (now (stimulus .entry))) ⌝ }
-    ensures { λ _. ⌜ Within 4096 8192 (now (work .entry)) (now (work .exit)) ⌝ }
+    ensures { λ _. ⌜ Within visitedAt mixesAt (now (work .entry)) (now (work .exit)) ⌝ }
 {
     let count = order::topo_sort(work, n);
     place(work, n, stimulus);

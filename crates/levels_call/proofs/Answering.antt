@@ -11,7 +11,7 @@ use Rattle.cell.specs.declared.Cell.{Cell}
 use Rattle.cell.specs.Records.{recordsOf, cellOf}
 use Rattle.cell.proofs.Lists.{records-length}
 use Rattle.netlist.specs.Netlist.{netlistOf}
-use Rattle.netlist.specs.Areas.{recordsIn, Within}
+use Rattle.netlist.specs.Areas.{recordsIn, Within, mixesAt, visitedAt}
 use Rattle.netlist.proofs.Frames.{within-drop, records-kept}
 use Rattle.levels.specs.Evaluate.{givenLevels, outputSlots}
 use Rattle.levels.specs.Fold.{cellsIn, ofKind, levelsAt, bitLevels, bitOutputs}
@@ -54,9 +54,9 @@ module _ (n : ℕ) (ws bs reply : List ℕ) (count : ℕ) (e : count ≡ length 
   pub short-reply : length reply < count → Delivers bytes ws ws reply reply (Refused ShortReply)
   short-reply h = delivers-none bytes ws ws reply count bytes-count refl h
 
-  module _ (ws′ : List ℕ) (w : Within 4096 8192 ws ws′) (few : n ≤ 512) where
+  module _ (ws′ : List ℕ) (w : Within visitedAt mixesAt ws ws′) (few : n ≤ 512) where
     outputs-kept : ofKind 2 (recordsIn n ws′) ≡ ofKind 2 (recordsIn n ws)
-    outputs-kept = ap (ofKind 2) (records-kept 4096 8192 ws ws′ w n (omega arith))
+    outputs-kept = ap (ofKind 2) (records-kept visitedAt mixesAt ws ws′ w n (omega arith))
 
     pub reply-room : count ≤ length reply → length (ofKind 2 (recordsIn n ws′)) ≤ length reply
     reply-room h = rw outputs-kept (omega (arith, e))
@@ -65,7 +65,7 @@ module _ (n : ℕ) (ws bs reply : List ℕ) (count : ℕ) (e : count ≡ length 
         → (reply′ : List ℕ) → reply′ ≡ put reply (writtenLevels n ws′) → Delivers bytes ws ws′ reply reply′ (Accepted count)
     unfolding writtenLevels
     levels-written h f reply′ g =
-        delivers-all bytes ws ws′ reply count bytes-count (within-drop 4096 8192 16384 ws ws′ (omega arith) w) h reply′
+        delivers-all bytes ws ws′ reply count bytes-count (within-drop visitedAt mixesAt 16384 ws ws′ (omega arith) w) h reply′
         (g ∙ ap (put reply) (ap₂ (λ (ls : List Trit) (ss : List ℕ). map (λ s. byteOf (getD ls s Undef)) ss) f outputs-kept ∙ sym bytes-are))
 
 -- 10 to 12
@@ -79,7 +79,7 @@ module _ (t ws₀ : List ℕ) (p : Passed t ws₀) (stimulus reply : List ℕ) w
   ranked : Ranked cells (rank (recordsOf t))
   ranked = accepted-sound (recordsOf t) (let few : length t / 16 ≤ 512 = p .few in omega (arith, records-length t)) (p .pass) .ranked
 
-  module _ (n : ℕ) (ws : List ℕ) (loaded : recordsIn n ws ≡ recordsOf t) (frame : Within 0 4096 ws₀ ws) (v : Verdict)
+  module _ (n : ℕ) (ws : List ℕ) (loaded : recordsIn n ws ≡ recordsOf t) (frame : Within 0 visitedAt ws₀ ws) (v : Verdict)
       (v-is : v ≡ firstOf (stimulusStages (cellsIn n ws) stimulus)) where
     same-cells : cellsIn n ws ≡ cells
     unfolding netlistOf
@@ -89,7 +89,7 @@ module _ (t ws₀ : List ℕ) (p : Passed t ws₀) (stimulus reply : List ℕ) w
     decided = v-is ∙ ap (λ (cs : List Cell). firstOf (stimulusStages cs stimulus)) same-cells
 
     behind : drop 16384 ws ≡ drop 16384 ws₀
-    behind = within-drop 0 4096 16384 ws₀ ws (omega arith) frame
+    behind = within-drop 0 visitedAt 16384 ws₀ ws (omega arith) frame
 
     pub stimulus-refused : (x : Refusal) → v ≡ verdict.Refused x → Writes (levelStages t stimulus reply) result ws₀ ws reply reply (Refused x)
     unfolding levelStages

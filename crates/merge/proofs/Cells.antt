@@ -16,7 +16,7 @@ use Rattle.value.specs.Value.{netAt}
 use Rattle.cell.specs.declared.Record.{Record}
 use Rattle.cell.specs.declared.Cell.{Cell}
 use Rattle.cell.specs.Records.{cellOf, cellRecord}
-use Rattle.netlist.specs.Areas.{wordRecord, storeWords, Within}
+use Rattle.netlist.specs.Areas.{wordRecord, storeWords, Within, figuresAt, freeAt, keysAt, keysFrom, replacedAt}
 use Rattle.netlist.specs.Netlist.{run}
 use Rattle.netlist.proofs.Frames.{within-none, within-then, within-wider, tabulate-same, record-kept}
 use Rattle.netlist.proofs.Areas.{store-within, stored-other, stored-same}
@@ -70,25 +70,25 @@ module _ (n : ℕ) (ws : List ℕ) (s e : ℕ) (g : Ending n ws (s + 1) e) where
       ended (ap run (drop-of-length-le (netlistIn n ws .bits) past))
 
 -- stores behind the replaced nets
-module _ (from to n : ℕ) (ws ws′ : List ℕ) (far : 7168 ≤ from) (few : n ≤ 512) (w : Within from to ws ws′) where
+module _ (from to n : ℕ) (ws ws′ : List ℕ) (far : figuresAt ≤ from) (few : n ≤ 512) (w : Within from to ws ws′) where
   pub replaced-stays : replacedIn n ws′ ≡ replacedIn n ws
   unfolding replacedIn
   replaced-stays =
-      tabulate-same (λ i. netAt (getD ws′ (6144 + i) 0)) (λ i. netAt (getD ws (6144 + i) 0)) n
-      (λ i l. ap netAt (w .before (6144 + i) (omega arith)))
+      tabulate-same (λ i. netAt (getD ws′ (replacedAt + i) 0)) (λ i. netAt (getD ws (replacedAt + i) 0)) n
+      (λ i l. ap netAt (w .before (replacedAt + i) (omega arith)))
 
   pub key-stays : (s : ℕ) → s < n → keyIn n ws′ s ≡ keyIn n ws s
   unfolding keyIn
   key-stays s l = rw (replaced-stays, record-kept from to ws ws′ w s (inl (omega arith)))
 
-pub key-put : (n : ℕ) (ws ws′ : List ℕ) (s : ℕ) (q own new key : Record) → ws′ ≡ storeWords ws (3328 + s) key → key ≡ keyFields s new
+pub key-put : (n : ℕ) (ws ws′ : List ℕ) (s : ℕ) (q own new key : Record) → ws′ ≡ storeWords ws (keysAt + s) key → key ≡ keyFields s new
     → new ≡ renamedFields (mapNetNew (replacedIn n ws)) own → own ≡ cellRecord (q .bit) (cellOf q) → q ≡ wordRecord ws s
-    → ws′ ≡ storeWords ws (3328 + s) (cellRecord s (keyIn n ws s))
+    → ws′ ≡ storeWords ws (keysAt + s) (cellRecord s (keyIn n ws s))
 unfolding keyIn
 key-put n ws ws′ s q own new key e ek en eo eq =
     let f : Net → Net = mapNetNew (replacedIn n ws) in
     e
-    ∙ ap (storeWords ws (3328 + s)) (ek
+    ∙ ap (storeWords ws (keysAt + s)) (ek
     ∙ ap (keyFields s) (en ∙ ap (renamedFields f) eo ∙ renamed-cell f (replaced-zero (replacedIn n ws)) (q .bit) (cellOf q))
     ∙ key-fields s (q .bit) (visitMut f (cellOf q))
     ∙ ap (λ (r : Record). cellRecord s (keyOf (visitMut f (cellOf r)))) eq)
@@ -98,36 +98,36 @@ pub record Keying (n s e : ℕ) (ws₀ ws : List ℕ) (i : ℕ) : Type 0 where
   pub long : 16384 ≤ length ws₀
   pub few : n ≤ 512
   pub inside : e ≤ n
-  pub each : (j : ℕ) → s ≤ j → j < i → wordRecord ws (3328 + j) ≡ cellRecord j (keyIn n ws₀ j)
-  pub frame : Within 13312 15360 ws₀ ws
+  pub each : (j : ℕ) → s ≤ j → j < i → wordRecord ws (keysAt + j) ≡ cellRecord j (keyIn n ws₀ j)
+  pub frame : Within keysFrom freeAt ws₀ ws
 
 pub keying-none : (n s e : ℕ) (ws : List ℕ) → 16384 ≤ length ws → n ≤ 512 → e ≤ n → Keying n s e ws ws s
-keying-none n s e ws h few m = record { long = h; few = few; inside = m; each = λ j l m. absurd (omega arith); frame = within-none 13312 15360 ws }
+keying-none n s e ws h few m = record { long = h; few = few; inside = m; each = λ j l m. absurd (omega arith); frame = within-none keysFrom freeAt ws }
 
 module _ (n s e : ℕ) (ws₀ ws : List ℕ) (i : ℕ) (g : Keying n s e ws₀ ws i) where
-  pub keying-more : (ws′ : List ℕ) → ws′ ≡ storeWords ws (3328 + i) (cellRecord i (keyIn n ws i)) → i < e → Keying n s e ws₀ ws′ (i + 1)
+  pub keying-more : (ws′ : List ℕ) → ws′ ≡ storeWords ws (keysAt + i) (cellRecord i (keyIn n ws i)) → i < e → Keying n s e ws₀ ws′ (i + 1)
   keying-more ws′ f l =
       let few : n ≤ 512 = g .few in
       let m : e ≤ n = g .inside in
       let long : 16384 ≤ length ws = let h : 16384 ≤ length ws₀ = g .long in omega (arith, g .frame .same) in
-      let key : keyIn n ws i ≡ keyIn n ws₀ i = key-stays 13312 15360 n ws₀ ws (omega arith) few (g .frame) i (omega arith) in
+      let key : keyIn n ws i ≡ keyIn n ws₀ i = key-stays keysFrom freeAt n ws₀ ws (omega arith) few (g .frame) i (omega arith) in
       let r : Record = cellRecord i (keyIn n ws₀ i) in
-      subst (λ (vs : List ℕ). Keying n s e ws₀ vs (i + 1)) (sym (f ∙ ap (λ (d : Cell). storeWords ws (3328 + i) (cellRecord i d)) key)) (record {
+      subst (λ (vs : List ℕ). Keying n s e ws₀ vs (i + 1)) (sym (f ∙ ap (λ (d : Cell). storeWords ws (keysAt + i) (cellRecord i d)) key)) (record {
         long = g .long;
         few = few;
         inside = m;
         each = λ j a b. go j a b long (omega arith) (decLt j i);
-        frame = within-then 13312 15360 ws₀ ws (storeWords ws (3328 + i) r) (g .frame)
-            (within-wider ((3328 + i) * 4) ((3328 + i) * 4 + 4) 13312 15360 ws (storeWords ws (3328 + i) r) (omega arith) (omega arith) (store-within ws (3328 + i) r));
+        frame = within-then keysFrom freeAt ws₀ ws (storeWords ws (keysAt + i) r) (g .frame)
+            (within-wider ((keysAt + i) * 4) ((keysAt + i) * 4 + 4) keysFrom freeAt ws (storeWords ws (keysAt + i) r) (omega arith) (omega arith) (store-within ws (keysAt + i) r));
       })
     where
       go : (j : ℕ) → s ≤ j → j < i + 1 → 16384 ≤ length ws → i < 512 → Dec (j < i)
-          → wordRecord (storeWords ws (3328 + i) (cellRecord i (keyIn n ws₀ i))) (3328 + j) ≡ cellRecord j (keyIn n ws₀ j)
-      go j a b long h (yes k) = stored-other ws (3328 + i) (cellRecord i (keyIn n ws₀ i)) (3328 + j) (λ z. absurd (omega arith)) ∙ g .each j a k
+          → wordRecord (storeWords ws (keysAt + i) (cellRecord i (keyIn n ws₀ i))) (keysAt + j) ≡ cellRecord j (keyIn n ws₀ j)
+      go j a b long h (yes k) = stored-other ws (keysAt + i) (cellRecord i (keyIn n ws₀ i)) (keysAt + j) (λ z. absurd (omega arith)) ∙ g .each j a k
       go j a b long h (no k) =
           let z : i ≡ j = omega arith in
-          subst (λ (v : ℕ). wordRecord (storeWords ws (3328 + i) (cellRecord i (keyIn n ws₀ i))) (3328 + v) ≡ cellRecord v (keyIn n ws₀ v)) z
-          (stored-same ws (3328 + i) (cellRecord i (keyIn n ws₀ i)) (omega arith) (cell-sized i (keyIn n ws₀ i) (omega arith)))
+          subst (λ (v : ℕ). wordRecord (storeWords ws (keysAt + i) (cellRecord i (keyIn n ws₀ i))) (keysAt + v) ≡ cellRecord v (keyIn n ws₀ v)) z
+          (stored-same ws (keysAt + i) (cellRecord i (keyIn n ws₀ i)) (omega arith) (cell-sized i (keyIn n ws₀ i) (omega arith)))
 
   pub keying-all : e ≤ i → Keys n s e ws₀ ws
   keying-all h = record { each = λ j a b. g .each j a (omega arith); frame = g .frame }

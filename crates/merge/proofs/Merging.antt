@@ -12,7 +12,7 @@ use Rattle.cell.specs.declared.Cell.{Cell}
 use Rattle.cell.specs.Records.{cellOf}
 use Rattle.cell.specs.Tabulate.{tabulate}
 use Rattle.cell.proofs.Lists.{tabulate-length, tabulate-at}
-use Rattle.netlist.specs.Areas.{wordRecord, recordsIn, wordsIn, orderAt, Within}
+use Rattle.netlist.specs.Areas.{wordRecord, recordsIn, wordsIn, orderAt, Within, figuresAt, freeAt, replacedAt, visitedAt}
 use Rattle.netlist.specs.Shape.{hasEffects}
 use Rattle.netlist.specs.Netlist.{Netlist, netlistOf, cellIn, those}
 use Rattle.netlist.proofs.Frames.{within-none, within-then, within-wider, words-kept, records-kept}
@@ -45,7 +45,7 @@ module _ (n k s : ℕ) (ws : List ℕ) (c : Cell) (c-is : c ≡ cellOf (wordReco
 
   pub next-passed : b ≡ true → Ready n k ws → MergesNext n k s ws ws k
   unfolding mergeCells those looksFor loadOf
-  next-passed e g = record { said = rw (effects ∙ e); ready = g; most = omega arith; frame = within-none 6144 15360 ws }
+  next-passed e g = record { said = rw (effects ∙ e); ready = g; most = omega arith; frame = within-none replacedAt freeAt ws }
 
   pub next-room : b ≡ false → k + loadOf (netlistIn n ws) s ≤ 1024 → k + widthOf (netlistIn n ws .bits) s ≤ 1024
   unfolding loadOf
@@ -56,7 +56,7 @@ module _ (n k s : ℕ) (ws : List ℕ) (c : Cell) (c-is : c ≡ cellOf (wordReco
   next-merged e ws′ r m = record { said = rw (effects ∙ e) (m .said); ready = m .ready; most = rw (effects ∙ e) (m .most); frame = m .frame }
 
 -- the order area, place after place
-words-more : (j : ℕ) (ws : List ℕ) → wordsIn orderAt (j + 1) ws ≡ wordsIn orderAt j ws ++ (getD ws (5120 + j) 0 ∷ [])
+words-more : (j : ℕ) (ws : List ℕ) → wordsIn orderAt (j + 1) ws ≡ wordsIn orderAt j ws ++ (getD ws (orderAt + j) 0 ∷ [])
 unfolding wordsIn tabulate
 words-more j ws = rw add-one
 
@@ -68,8 +68,8 @@ sum-prefix f ws j (suc count) h = go (sum-prefix f ws j count) (decLt j (suc cou
         → sum f (wordsIn orderAt j ws) ≤ sum f (wordsIn orderAt (suc count) ws)
     go r (yes l) =
         let m : sum f (wordsIn orderAt j ws) ≤ sum f (wordsIn orderAt count ws) = r (omega arith) in
-        let q : sum f (wordsIn orderAt (suc count) ws) ≡ sum f (wordsIn orderAt count ws) + f (getD ws (5120 + count) 0) =
-        ap (λ (i : ℕ). sum f (wordsIn orderAt i ws)) (sym (add-one count)) ∙ ap (sum f) (words-more count ws) ∙ sum-more f (wordsIn orderAt count ws) (getD ws (5120 + count) 0) in
+        let q : sum f (wordsIn orderAt (suc count) ws) ≡ sum f (wordsIn orderAt count ws) + f (getD ws (orderAt + count) 0) =
+        ap (λ (i : ℕ). sum f (wordsIn orderAt i ws)) (sym (add-one count)) ∙ ap (sum f) (words-more count ws) ∙ sum-more f (wordsIn orderAt count ws) (getD ws (orderAt + count) 0) in
         omega arith
     go r (no l) = let q : j ≡ suc count = omega arith in subst (λ (i : ℕ). sum f (wordsIn orderAt j ws) ≤ sum f (wordsIn orderAt i ws)) q (omega arith)
 
@@ -80,7 +80,7 @@ pub record Turning (n count : ℕ) (ws₀ ws : List ℕ) (k j : ℕ) : Type 0 wh
   pub said : mergingIn n k ws ≡ mergeCells (netlistIn n ws₀) (mergingIn n 0 ws₀) (those (looksFor (netlistIn n ws₀)) (wordsIn orderAt j ws₀))
   pub ready : Ready n k ws
   pub most : k ≤ sum (loadOf (netlistIn n ws₀)) (wordsIn orderAt j ws₀)
-  pub frame : Within 6144 15360 ws₀ ws
+  pub frame : Within replacedAt freeAt ws₀ ws
 
 pub turning-none : (n count : ℕ) (ws : List ℕ) → Ordered n count ws → Turning n count ws ws 0 0
 unfolding wordsIn tabulate those mergeCells
@@ -90,16 +90,16 @@ turning-none n count ws g = record {
   said = refl;
   ready = record { long = g .long; few = g .few; entered = entered-none ws; mixed = mixed-none ws };
   most = omega arith;
-  frame = within-none 6144 15360 ws;
+  frame = within-none replacedAt freeAt ws;
 }
 
 module _ (n count : ℕ) (ws₀ ws : List ℕ) (k j : ℕ) (g : Turning n count ws₀ ws k j) where
   netlist-same : netlistIn n ws ≡ netlistIn n ws₀
-  netlist-same = let few : n ≤ 512 = g .ordered .few in ap netlistOf (records-kept 6144 15360 ws₀ ws (g .frame) n (omega arith))
+  netlist-same = let few : n ≤ 512 = g .ordered .few in ap netlistOf (records-kept replacedAt freeAt ws₀ ws (g .frame) n (omega arith))
 
-  module _ (s : ℕ) (s-is : s ≡ getD ws (5120 + j) 0) (l : j < count) where
-    place : s ≡ getD ws₀ (5120 + j) 0
-    place = let short : count ≤ 1024 = g .ordered .short in s-is ∙ g .frame .before (5120 + j) (omega arith)
+  module _ (s : ℕ) (s-is : s ≡ getD ws (orderAt + j) 0) (l : j < count) where
+    place : s ≡ getD ws₀ (orderAt + j) 0
+    place = let short : count ≤ 1024 = g .ordered .short in s-is ∙ g .frame .before (orderAt + j) (omega arith)
 
     pub turning-inside : s < n
     turning-inside = omega (arith, place, g .ordered .inside j l)
@@ -107,7 +107,7 @@ module _ (n count : ℕ) (ws₀ ws : List ℕ) (k j : ℕ) (g : Turning n count 
     load-more : sum (loadOf (netlistIn n ws₀)) (wordsIn orderAt (j + 1) ws₀) ≡ sum (loadOf (netlistIn n ws₀)) (wordsIn orderAt j ws₀) + loadOf (netlistIn n ws₀) s
     load-more =
         ap (sum (loadOf (netlistIn n ws₀))) (words-more j ws₀)
-        ∙ sum-more (loadOf (netlistIn n ws₀)) (wordsIn orderAt j ws₀) (getD ws₀ (5120 + j) 0)
+        ∙ sum-more (loadOf (netlistIn n ws₀)) (wordsIn orderAt j ws₀) (getD ws₀ (orderAt + j) 0)
         ∙ ap (λ (x : ℕ). sum (loadOf (netlistIn n ws₀)) (wordsIn orderAt j ws₀) + loadOf (netlistIn n ws₀) x) (sym place)
 
     pub turning-room : k + loadOf (netlistIn n ws) s ≤ 1024
@@ -131,11 +131,11 @@ module _ (n count : ℕ) (ws₀ ws : List ℕ) (k j : ℕ) (g : Turning n count 
               m .said ∙ ap (λ (e : Netlist). mergeCells e (mergingIn n k ws) (those (looksFor e) (s ∷ []))) netlist-same
               ∙ ap (λ (x : Merging). mergeCells d x (those (looksFor d) (s ∷ []))) (g .said)
               ∙ ap (λ (x : ℕ). mergeCells d (mergeCells d (mergingIn n 0 ws₀) (those (looksFor d) (wordsIn orderAt j ws₀))) (those (looksFor d) (x ∷ []))) place
-              ∙ sym (cells-more d (mergingIn n 0 ws₀) (wordsIn orderAt j ws₀) (getD ws₀ (5120 + j) 0))
+              ∙ sym (cells-more d (mergingIn n 0 ws₀) (wordsIn orderAt j ws₀) (getD ws₀ (orderAt + j) 0))
               ∙ ap (λ (xs : List ℕ). mergeCells d (mergingIn n 0 ws₀) (those (looksFor d) xs)) (sym (words-more j ws₀));
           ready = m .ready;
           most = omega (arith, m .most, g .most, load-more, ap (λ (e : Netlist). loadOf e s) netlist-same);
-          frame = within-then 6144 15360 ws₀ ws ws′ (g .frame) (m .frame);
+          frame = within-then replacedAt freeAt ws₀ ws ws′ (g .frame) (m .frame);
         }
 
   pub turning-all : count ≤ j → MergesCells n count ws₀ ws
@@ -156,8 +156,8 @@ every-at P [] p j l = absurd (omega arith)
 every-at P (x ∷ xs) p zero l = p .0
 every-at P (x ∷ xs) p (suc j) l = every-at P xs (p .1) j (omega arith)
 
-module _ (n count : ℕ) (ws ws₁ ws₂ : List ℕ) (order : wordsIn orderAt count ws₁ ≡ iterCellsTopo (netlistIn n ws)) (frame₁ : Within 4096 6144 ws ws₁)
-    (blank : replacedIn n ws₂ ≡ tabulate netIn n) (frame₂ : Within 6144 7168 ws₁ ws₂) (long : 16384 ≤ length ws) (few : n ≤ 512)
+module _ (n count : ℕ) (ws ws₁ ws₂ : List ℕ) (order : wordsIn orderAt count ws₁ ≡ iterCellsTopo (netlistIn n ws)) (frame₁ : Within visitedAt replacedAt ws ws₁)
+    (blank : replacedIn n ws₂ ≡ tabulate netIn n) (frame₂ : Within replacedAt figuresAt ws₁ ws₂) (long : 16384 ≤ length ws) (few : n ≤ 512)
     (seq : Sequenced (netlistIn n ws .bits)) where
   abbrev d : Netlist
   d = netlistIn n ws
@@ -166,21 +166,21 @@ module _ (n count : ℕ) (ws ws₁ ws₂ : List ℕ) (order : wordsIn orderAt co
   fits = cells-length n ws ∙ sym (bits-length n ws)
 
   records-same : recordsIn n ws₂ ≡ recordsIn n ws
-  records-same = records-kept 6144 7168 ws₁ ws₂ frame₂ n (omega arith) ∙ records-kept 4096 6144 ws ws₁ frame₁ n (omega arith)
+  records-same = records-kept replacedAt figuresAt ws₁ ws₂ frame₂ n (omega arith) ∙ records-kept visitedAt replacedAt ws ws₁ frame₁ n (omega arith)
 
   count-is : length (iterCellsTopo d) ≡ count
   unfolding wordsIn
-  count-is = ap length (sym order) ∙ tabulate-length (λ i. getD ws₁ (5120 + i) 0) count
+  count-is = ap length (sym order) ∙ tabulate-length (λ i. getD ws₁ (orderAt + i) 0) count
 
   short : count ≤ 1024
   short = omega (arith, count-is, order-short d seq fits, bits-length n ws)
 
   order-same : wordsIn orderAt count ws₂ ≡ iterCellsTopo d
-  order-same = words-kept 6144 7168 ws₁ ws₂ frame₂ 5120 count (inl (let h : count ≤ 1024 = short in omega arith)) ∙ order
+  order-same = words-kept replacedAt figuresAt ws₁ ws₂ frame₂ orderAt count (inl (let h : count ≤ 1024 = short in omega arith)) ∙ order
 
-  place-at : (j : ℕ) → j < count → getD ws₂ (5120 + j) 0 ≡ getD (iterCellsTopo d) j 0
+  place-at : (j : ℕ) → j < count → getD ws₂ (orderAt + j) 0 ≡ getD (iterCellsTopo d) j 0
   unfolding wordsIn
-  place-at j l = sym (tabulate-at (λ i. getD ws₂ (5120 + i) 0) count 0 j l) ∙ ap (λ (xs : List ℕ). getD xs j 0) order-same
+  place-at j l = sym (tabulate-at (λ i. getD ws₂ (orderAt + i) 0) count 0 j l) ∙ ap (λ (xs : List ℕ). getD xs j 0) order-same
 
   pub all-ordered : Ordered n count ws₂
   all-ordered = record {
@@ -204,19 +204,19 @@ module _ (n count : ℕ) (ws ws₁ ws₂ : List ℕ) (order : wordsIn orderAt co
   unfolding merging looksFor
   all-merged ws₃ m = record {
     said = m .said ∙ rw (start, records-same, order-same);
-    records = records-kept 6144 15360 ws₂ ws₃ (m .frame) n (omega arith) ∙ records-same;
-    frame = within-then 4096 15360 ws ws₂ ws₃
-        (within-then 4096 15360 ws ws₁ ws₂ (within-wider 4096 6144 4096 15360 ws ws₁ (omega arith) (omega arith) frame₁)
-        (within-wider 6144 7168 4096 15360 ws₁ ws₂ (omega arith) (omega arith) frame₂))
-        (within-wider 6144 15360 4096 15360 ws₂ ws₃ (omega arith) (omega arith) (m .frame));
+    records = records-kept replacedAt freeAt ws₂ ws₃ (m .frame) n (omega arith) ∙ records-same;
+    frame = within-then visitedAt freeAt ws ws₂ ws₃
+        (within-then visitedAt freeAt ws ws₁ ws₂ (within-wider visitedAt replacedAt visitedAt freeAt ws ws₁ (omega arith) (omega arith) frame₁)
+        (within-wider replacedAt figuresAt visitedAt freeAt ws₁ ws₂ (omega arith) (omega arith) frame₂))
+        (within-wider replacedAt freeAt visitedAt freeAt ws₂ ws₃ (omega arith) (omega arith) (m .frame));
   }
 
 pub merged : (n : ℕ) (ws ws₁ ws₂ : List ℕ) (r : Bool) → MergesAll n ws ws₁ → netlistIn n ws₂ ≡ appliedIn n ws₁ → r ≡ didChange (designIn n ws₁)
-    → Within 0 4096 ws₁ ws₂ → MergesNetlist n ws ws₂ r
+    → Within 0 visitedAt ws₁ ws₂ → MergesNetlist n ws ws₂ r
 unfolding merge appliedIn
 merged n ws ws₁ ws₂ r m e f w = record {
   result = e ∙ rw (m .said, m .records);
   flag = f ∙ ap didChange (m .said);
-  frame = within-then 0 15360 ws ws₁ ws₂ (within-wider 4096 15360 0 15360 ws ws₁ (omega arith) (omega arith) (m .frame))
-      (within-wider 0 4096 0 15360 ws₁ ws₂ (omega arith) (omega arith) w);
+  frame = within-then 0 freeAt ws ws₁ ws₂ (within-wider visitedAt freeAt 0 freeAt ws ws₁ (omega arith) (omega arith) (m .frame))
+      (within-wider 0 visitedAt 0 freeAt ws₁ ws₂ (omega arith) (omega arith) w);
 }

@@ -11,7 +11,7 @@ use Rattle.cell.specs.declared.Cell.{Cell}
 use Rattle.cell.specs.Records.{cellOf, cellRecord}
 use Rattle.cell.specs.Tabulate.{tabulate}
 use Rattle.cell.proofs.RoundTrips.{cell-back}
-use Rattle.netlist.specs.Areas.{wordRecord, storeWords, Within}
+use Rattle.netlist.specs.Areas.{wordRecord, storeWords, Within, figuresAt, freeAt, keysAt, keysFrom, mixesAt, numbererAt, numbererFrom, replacedAt}
 use Rattle.netlist.specs.Shape.{visitMut}
 use Rattle.netlist.specs.Netlist.{cellIn, outputOf}
 use Rattle.netlist.proofs.Frames.{within-none, within-then, within-wider, tabulate-same, record-kept, records-kept}
@@ -29,13 +29,13 @@ use Rattle.design.proofs.Lists.{map-table}
 use Rattle.merge.proofs.Cells.{replaced-stays}
 
 -- the design after a store behind the replaced nets
-pub design-stays : (from to n : ℕ) (ws ws′ : List ℕ) → 7168 ≤ from → n ≤ 512 → Within from to ws ws′ → designIn n ws′ ≡ designIn n ws
+pub design-stays : (from to n : ℕ) (ws ws′ : List ℕ) → figuresAt ≤ from → n ≤ 512 → Within from to ws ws′ → designIn n ws′ ≡ designIn n ws
 unfolding designIn
 design-stays from to n ws ws′ far few w =
     rw (replaced-stays from to n ws ws′ far few w, records-kept from to ws ws′ w n (omega arith))
 
 -- what merging asks after a store that the numberer is not in
-ready-stays : (from to : ℕ) (ws ws′ : List ℕ) → Within from to ws ws′ → (k : ℕ) → (to ≤ 8192) ⊎ (9216 + k * 4 ≤ from) → (n : ℕ) → Ready n k ws → Ready n k ws′
+ready-stays : (from to : ℕ) (ws ws′ : List ℕ) → Within from to ws ws′ → (k : ℕ) → (to ≤ mixesAt) ⊎ (numbererFrom + k * 4 ≤ from) → (n : ℕ) → Ready n k ws → Ready n k ws′
 ready-stays from to ws ws′ w k apart n g = record {
   long = omega (arith, g .long, w .same);
   few = g .few;
@@ -44,7 +44,7 @@ ready-stays from to ws ws′ w k apart n g = record {
 }
 
 -- `find_or_insert`
-module _ (ws : List ℕ) (s : ℕ) (keyed : Keyed s (s + 1) ws) (key : Record) (key-is : key ≡ wordRecord ws (3328 + s)) where
+module _ (ws : List ℕ) (s : ℕ) (keyed : Keyed s (s + 1) ws) (key : Record) (key-is : key ≡ wordRecord ws (keysAt + s)) where
   key-of-slot : key ≡ cellRecord s (keyAt ws s)
   key-of-slot = key-is ∙ keyed .each s (omega arith) (omega arith)
 
@@ -60,27 +60,27 @@ module _ (ws : List ℕ) (s : ℕ) (keyed : Keyed s (s + 1) ws) (key : Record) (
     numbered-by d e =
         ap (numbered (mergingIn n k ws) (keyAt ws s) s) (ap (seek (numbererIn k ws)) (sym key-cell) ∙ sym v-is ∙ e)
 
-    pub numbers-found : (x : Net) → v ≡ At x → (ws′ : List ℕ) → replacedIn n ws′ ≡ set (replacedIn n ws) s x → Within 6144 7168 ws ws′ → Numbers n k s ws ws′ k
+    pub numbers-found : (x : Net) → v ≡ At x → (ws′ : List ℕ) → replacedIn n ws′ ≡ set (replacedIn n ws) s x → Within replacedAt figuresAt ws ws′ → Numbers n k s ws ws′ k
     unfolding mergingIn designIn
     numbers-found x e ws′ q w =
         let few : n ≤ 512 = g .few in
         record {
           said =
-              rw (q, records-kept 6144 7168 ws ws′ w n (omega arith), numberer-stays 6144 7168 ws ws′ w k (inl (omega arith)))
+              rw (q, records-kept replacedAt figuresAt ws ws′ w n (omega arith), numberer-stays replacedAt figuresAt ws ws′ w k (inl (omega arith)))
               (sym (numbered-by (At x) e));
-          ready = ready-stays 6144 7168 ws ws′ w k (inl (omega arith)) n g;
+          ready = ready-stays replacedAt figuresAt ws ws′ w k (inl (omega arith)) n g;
           most = omega arith;
-          frame = within-wider 6144 7168 6144 13312 ws ws′ (omega arith) (omega arith) w;
+          frame = within-wider replacedAt figuresAt replacedAt keysFrom ws ws′ (omega arith) (omega arith) w;
         }
 
-    pub numbers-new : (ws′ : List ℕ) → ws′ ≡ set (storeWords ws (2304 + k) key) (8192 + k) (mixOf key) → k < 1024 → s < n → v ≡ Nothing → Numbers n k s ws ws′ (k + 1)
+    pub numbers-new : (ws′ : List ℕ) → ws′ ≡ set (storeWords ws (numbererAt + k) key) (mixesAt + k) (mixOf key) → k < 1024 → s < n → v ≡ Nothing → Numbers n k s ws ws′ (k + 1)
     unfolding mergingIn
     numbers-new ws′ put room small e =
         let few : n ≤ 512 = g .few in
         let long : 16384 ≤ length ws = g .long in
         let q : Inserts k s (keyAt ws s) ws ws′ = inserts ws k key s (keyAt ws s) key-of-slot ws′ put long room (omega arith) in
         record {
-          said = rw (design-stays 8192 13312 n ws ws′ (omega arith) few (q .frame), q .said) (sym (numbered-by Nothing e));
+          said = rw (design-stays mixesAt keysFrom n ws ws′ (omega arith) few (q .frame), q .said) (sym (numbered-by Nothing e));
           ready = record {
             long = omega (arith, q .frame .same);
             few = few;
@@ -88,7 +88,7 @@ module _ (ws : List ℕ) (s : ℕ) (keyed : Keyed s (s + 1) ws) (key : Record) (
             mixed = q .mixed (g .mixed);
           };
           most = omega arith;
-          frame = within-wider 8192 13312 6144 13312 ws ws′ (omega arith) (omega arith) (q .frame);
+          frame = within-wider mixesAt keysFrom replacedAt keysFrom ws ws′ (omega arith) (omega arith) (q .frame);
         }
 
 -- the loop of `find_or_insert_all`: one key after another
@@ -109,7 +109,7 @@ pub record Numbering (n k₀ s e : ℕ) (ws₀ ws : List ℕ) (k i : ℕ) : Type
   pub said : mergingIn n k ws ≡ findOrInsert (mergingIn n k₀ ws₀) (tabulate (λ j. (keyAt ws₀ (s + j), s + j)) (i - s))
   pub ready : Ready n k ws
   pub most : k ≤ k₀ + (i - s)
-  pub frame : Within 6144 13312 ws₀ ws
+  pub frame : Within replacedAt keysFrom ws₀ ws
 
 pub numbering-none : (n k s e : ℕ) (ws : List ℕ) → Ready n k ws → Keyed s e ws → s ≤ e → e ≤ n → k + (e - s) ≤ 1024 → Numbering n k s e ws ws k s
 unfolding findOrInsert tabulate
@@ -124,12 +124,12 @@ numbering-none n k s e ws g q a b r =
       said = rw z;
       ready = g;
       most = omega arith;
-      frame = within-none 6144 13312 ws;
+      frame = within-none replacedAt keysFrom ws;
     }
 
 module _ (n k₀ s e : ℕ) (ws₀ ws : List ℕ) (k i : ℕ) (g : Numbering n k₀ s e ws₀ ws k i) where
-  place-stays : (j : ℕ) → wordRecord ws (3328 + j) ≡ wordRecord ws₀ (3328 + j)
-  place-stays j = record-kept 6144 13312 ws₀ ws (g .frame) (3328 + j) (inr (omega arith))
+  place-stays : (j : ℕ) → wordRecord ws (keysAt + j) ≡ wordRecord ws₀ (keysAt + j)
+  place-stays j = record-kept replacedAt keysFrom ws₀ ws (g .frame) (keysAt + j) (inr (omega arith))
 
   key-same : (j : ℕ) → keyAt ws j ≡ keyAt ws₀ j
   unfolding keyAt
@@ -159,7 +159,7 @@ module _ (n k₀ s e : ℕ) (ws₀ ws : List ℕ) (k i : ℕ) (g : Numbering n k
             ∙ sym (rw (next, insert-more (mergingIn n k₀ ws₀) (tabulate (λ j. (keyAt ws₀ (s + j), s + j)) (i - s)) (keyAt ws₀ (s + (i - s))) (s + (i - s)), here));
         ready = q .ready;
         most = omega arith;
-        frame = within-then 6144 13312 ws₀ ws ws′ (g .frame) (q .frame);
+        frame = within-then replacedAt keysFrom ws₀ ws ws′ (g .frame) (q .frame);
       }
 
   pub numbering-all : e ≤ i → NumbersAll n k₀ s e ws₀ ws k
@@ -179,13 +179,13 @@ module _ (n s e : ℕ) (ws ws₁ : List ℕ) (q : Keys n s e ws ws₁) where
   keys-keyed = record { each = λ j a b. q .each j a b ∙ ap (cellRecord j) (sym (ap cellOf (q .each j a b) ∙ cell-back j (keyIn n ws j))) }
 
   pub keys-ready : (k : ℕ) → Ready n k ws → k + widthOf (netlistIn n ws .bits) s ≤ 1024 → Ready n k ws₁
-  keys-ready k g r = ready-stays 13312 15360 ws ws₁ (q .frame) k (inr (omega arith)) n g
+  keys-ready k g r = ready-stays keysFrom freeAt ws ws₁ (q .frame) k (inr (omega arith)) n g
 
   module _ (k : ℕ) (g : Ready n k ws) (e-is : e ≡ s + widthOf (netlistIn n ws .bits) s) (inside : e ≤ n) (r : k + widthOf (netlistIn n ws .bits) s ≤ 1024) where
     merging-same : mergingIn n k ws₁ ≡ mergingIn n k ws
     unfolding mergingIn
     merging-same =
-        rw (design-stays 13312 15360 n ws ws₁ (omega arith) (g .few) (q .frame), numberer-stays 13312 15360 ws ws₁ (q .frame) k (inr (omega arith)))
+        rw (design-stays keysFrom freeAt n ws ws₁ (omega arith) (g .few) (q .frame), numberer-stays keysFrom freeAt ws ws₁ (q .frame) k (inr (omega arith)))
 
     key-of-bit : (i : ℕ) → i < widthOf (netlistIn n ws .bits) s
         → keyAt ws₁ (s + i) ≡ keyOf (visitMut (mapNetNew (mergingIn n k ws .design .replaced)) (cellIn (netlistIn n ws .cells) (s + i)))
@@ -216,6 +216,6 @@ module _ (n s e : ℕ) (ws ws₁ : List ℕ) (q : Keys n s e ws ws₁) where
           said = a .said ∙ rw (merging-same, bits-same);
           ready = a .ready;
           most = omega arith;
-          frame = within-then 6144 15360 ws ws₁ ws₂ (within-wider 13312 15360 6144 15360 ws ws₁ (omega arith) (omega arith) (q .frame))
-              (within-wider 6144 13312 6144 15360 ws₁ ws₂ (omega arith) (omega arith) (a .frame));
+          frame = within-then replacedAt freeAt ws ws₁ ws₂ (within-wider keysFrom freeAt replacedAt freeAt ws ws₁ (omega arith) (omega arith) (q .frame))
+              (within-wider replacedAt keysFrom replacedAt freeAt ws₁ ws₂ (omega arith) (omega arith) (a .frame));
         }

@@ -11,7 +11,7 @@ use Rattle.cell.specs.declared.Record.{Record}
 use Rattle.cell.specs.declared.Cell.{Cell}
 use Rattle.cell.specs.Records.{recordOf, cellOf, cellRecord}
 use Rattle.cell.specs.Tabulate.{tabulate}
-use Rattle.netlist.specs.Areas.{wordRecord, recordsIn, wordsIn, orderAt, Within}
+use Rattle.netlist.specs.Areas.{wordRecord, recordsIn, wordsIn, orderAt, Within, freeAt, keysAt, keysFrom, replacedAt, visitedAt}
 use Rattle.netlist.specs.Shape.{visitMut, hasEffects}
 use Rattle.netlist.specs.Netlist.{Netlist, cellIn, those, run}
 use Rattle.design.specs.Queue.{mapNetNew, seek}
@@ -31,10 +31,6 @@ turned r =
 unfoldable pub keyFields : ℕ → Record → Record
 keyFields bit r =
     recordOf (r .kind) (cond (eqb (r .flags) 1) 2 (r .flags)) bit (cond (turned r) (r .b) (r .a)) (cond (turned r) (r .a) (r .b)) (r .c)
-
--- the keys of a cell that is being merged stand at its slots, four words each, from word 13312 on
-abbrev pub keysAt : ℕ
-keysAt = 3328
 
 -- n slots and k entries of the numberer
 unfoldable pub mergingIn : ℕ → ℕ → List ℕ → Merging
@@ -60,21 +56,21 @@ pub record Keyed (s e : ℕ) (ws : List ℕ) : Type 0 where
 
 pub record Keys (n s e : ℕ) (ws ws′ : List ℕ) : Type 0 where
   pub each : (i : ℕ) → s ≤ i → i < e → wordRecord ws′ (keysAt + i) ≡ cellRecord i (keyIn n ws i)
-  pub frame : Within 13312 15360 ws ws′
+  pub frame : Within keysFrom freeAt ws ws′
 
 -- the key in a slot's place is found or entered
 pub record Numbers (n k s : ℕ) (ws ws′ : List ℕ) (r : ℕ) : Type 0 where
   pub said : mergingIn n r ws′ ≡ numbered (mergingIn n k ws) (keyAt ws s) s (seek (numbererIn k ws) (keyAt ws s))
   pub ready : Ready n r ws′
   pub most : r ≤ k + 1
-  pub frame : Within 6144 13312 ws ws′
+  pub frame : Within replacedAt keysFrom ws ws′
 
 -- so are those of the slots from s up to e
 pub record NumbersAll (n k s e : ℕ) (ws ws′ : List ℕ) (r : ℕ) : Type 0 where
   pub said : mergingIn n r ws′ ≡ findOrInsert (mergingIn n k ws) (tabulate (λ i. (keyAt ws (s + i), s + i)) (e - s))
   pub ready : Ready n r ws′
   pub most : r ≤ k + (e - s)
-  pub frame : Within 6144 13312 ws ws′
+  pub frame : Within replacedAt keysFrom ws ws′
 
 -- how many bits the cell has that starts at a slot
 unfoldable pub widthOf : List ℕ → ℕ → ℕ
@@ -85,7 +81,7 @@ pub record Merges (n k s : ℕ) (ws ws′ : List ℕ) (r : ℕ) : Type 0 where
   pub said : mergingIn n r ws′ ≡ mergeCell (netlistIn n ws) (mergingIn n k ws) s
   pub ready : Ready n r ws′
   pub most : r ≤ k + widthOf (netlistIn n ws .bits) s
-  pub frame : Within 6144 15360 ws ws′
+  pub frame : Within replacedAt freeAt ws ws′
 
 -- whether a slot's cell is looked for, and how many keys it may enter
 unfoldable pub looksFor : Netlist → ℕ → Bool
@@ -99,7 +95,7 @@ pub record MergesNext (n k s : ℕ) (ws ws′ : List ℕ) (r : ℕ) : Type 0 whe
   pub said : mergingIn n r ws′ ≡ mergeCells (netlistIn n ws) (mergingIn n k ws) (those (looksFor (netlistIn n ws)) (s ∷ []))
   pub ready : Ready n r ws′
   pub most : r ≤ k + loadOf (netlistIn n ws) s
-  pub frame : Within 6144 15360 ws ws′
+  pub frame : Within replacedAt freeAt ws ws′
 
 -- a figure for each item, summed over a list
 unfoldable pub sum : (ℕ → ℕ) → List ℕ → ℕ
@@ -117,16 +113,16 @@ pub record Ordered (n count : ℕ) (ws : List ℕ) : Type 0 where
 -- the cells of the order area were merged
 pub record MergesCells (n count : ℕ) (ws ws′ : List ℕ) : Type 0 where
   pub said : designIn n ws′ ≡ mergeCells (netlistIn n ws) (mergingIn n 0 ws) (those (looksFor (netlistIn n ws)) (wordsIn orderAt count ws)) .design
-  pub frame : Within 6144 15360 ws ws′
+  pub frame : Within replacedAt freeAt ws ws′
 
 -- all cells were
 pub record MergesAll (n : ℕ) (ws ws′ : List ℕ) : Type 0 where
   pub said : designIn n ws′ ≡ merging (netlistIn n ws)
   pub records : recordsIn n ws′ ≡ recordsIn n ws
-  pub frame : Within 4096 15360 ws ws′
+  pub frame : Within visitedAt freeAt ws ws′
 
 -- the replacements were applied: what is left to do is `compact`
 pub record MergesNetlist (n : ℕ) (ws ws′ : List ℕ) (r : Bool) : Type 0 where
   pub result : netlistIn n ws′ ≡ mergedNetlist (netlistIn n ws) (merging (netlistIn n ws))
   pub flag : r ≡ merge (netlistIn n ws) .1
-  pub frame : Within 0 15360 ws ws′
+  pub frame : Within 0 freeAt ws ws′

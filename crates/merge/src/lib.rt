@@ -2,19 +2,15 @@
 use cell::Record;
 use design::Found;
 use design::visit;
+use netlist::area;
 use value::Slot;
 ghost use mathlib.Core.Path.{_≡_};
 ghost use Prim.Native.Nat.{_+_, _-_, _≤_, _<_};
 ghost use lib.ListN.{length};
 ghost use Rattle.cell.specs.Records.{cellRecord};
-ghost use Rattle.netlist.specs.Areas.{storeWords};
+ghost use Rattle.netlist.specs.Areas.{storeWords, keysAt};
 ghost use Rattle.design.specs.Words.{netlistIn};
-ghost use Rattle.merge.specs.Words.{turned, keyFields, keysAt, keyIn, Ready, Keyed, Keys, Numbers, NumbersAll, Merges, widthOf, loadOf, MergesNext, Sequenced, Ordered, MergesCells, MergesAll, MergesNetlist};
-
-// Where the keys of a cell that is being merged stand, as slots of four words.
-const KEYS: u32 = 3328;
-
-const ORDER: usize = 5120;
+ghost use Rattle.merge.specs.Words.{turned, keyFields, keyIn, Ready, Keyed, Keys, Numbers, NumbersAll, Merges, widthOf, loadOf, MergesNext, Sequenced, Ordered, MergesCells, MergesAll, MergesNetlist};
 
 // Whether a commutative cell's operands are exchanged in its key; its record has nothing in fields that its kind does not use.
 fn is_turned(r: Record) -> bool
@@ -48,7 +44,7 @@ fn put_key(work: &mut [u32], n: u32, s: Slot)
 {
     let own = visit::plain(netlist::record_in(work, s));
     let key = key_record(s.0 as u16, design::queue::replaced_record(work, n, own));
-    netlist::put_record(work, Slot(KEYS + s.0), key);
+    netlist::put_record(work, Slot(area::KEYS + s.0), key);
 }
 
 // The slot behind the cell that starts at a slot.
@@ -89,7 +85,7 @@ fn find_or_insert(work: &mut [u32], n: u32, k: u32, s: Slot) -> u32
     requires { ⌜ Keyed (s .0) (s .0 + 1) (now work) ⌝ }
     ensures { λ r. ⌜ Numbers n k (s .0) (now (work .entry)) (now (work .exit)) r ⌝ }
 {
-    let key = netlist::record_in(work, Slot(KEYS + s.0));
+    let key = netlist::record_in(work, Slot(area::KEYS + s.0));
     match numberer::find(work, k, key) {
         Found::At(x) => {
             design::queue::replace_net(work, n, s, x);
@@ -153,7 +149,7 @@ fn merge_cells(work: &mut [u32], n: u32, count: u32)
     let mut k: u32 = 0;
     let mut j: u32 = 0;
     while j < count {
-        let s = cell::word(work, ORDER + (j as usize));
+        let s = cell::word(work, area::ORDER + (j as usize));
         k = merge_next(work, n, k, Slot(s));
         j += 1;
     }

@@ -7,7 +7,7 @@ use native.Mathlib.Omega.{arith}
 use lib.ListN.{length}
 use Rattle.cell.specs.declared.Record.{Record}
 use Rattle.cell.specs.Records.{recordsOf}
-use Rattle.netlist.specs.Areas.{recordsIn, Within}
+use Rattle.netlist.specs.Areas.{recordsIn, Within, freeAt, visitedAt}
 use Rattle.netlist.specs.Netlist.{Netlist, netlistOf}
 use Rattle.netlist.proofs.Frames.{within-drop}
 use Rattle.compact.specs.Compact.{compact}
@@ -34,12 +34,12 @@ pub loaded-sequenced : (t : List ℕ) (n : ℕ) (ws : List ℕ) → recordsIn n 
     → Sequenced (netlistIn n ws .bits)
 loaded-sequenced t n ws loaded passed = records-sequenced (recordsIn n ws) (ap (λ (rs : List Record). firstOf (netlistStages rs)) loaded ∙ passed)
 
-pub merged-loads : (t : List ℕ) (n : ℕ) (ws₀ ws ws₁ : List ℕ) (r : Bool) → MergesNetlist n ws ws₁ r → recordsIn n ws ≡ recordsOf t → Within 0 4096 ws₀ ws
+pub merged-loads : (t : List ℕ) (n : ℕ) (ws₀ ws ws₁ : List ℕ) (r : Bool) → MergesNetlist n ws ws₁ r → recordsIn n ws ≡ recordsOf t → Within 0 visitedAt ws₀ ws
     → LoadsMerged t n ws₀ ws₁ r
 merged-loads t n ws₀ ws ws₁ r m loaded frame = record {
   result = m .result ∙ ap (λ (rs : List Record). mergedNetlist (netlistOf rs) (merging (netlistOf rs))) loaded;
   flag = m .flag ∙ ap (λ (rs : List Record). merge (netlistOf rs) .1) loaded;
-  rest = within-drop 0 15360 16384 ws ws₁ (omega arith) (m .frame) ∙ within-drop 0 4096 16384 ws₀ ws (omega arith) frame;
+  rest = within-drop 0 freeAt 16384 ws ws₁ (omega arith) (m .frame) ∙ within-drop 0 visitedAt 16384 ws₀ ws (omega arith) frame;
 }
 
 -- the flag beside the answer of a netlist written

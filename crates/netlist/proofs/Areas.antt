@@ -16,7 +16,7 @@ use Rattle.cell.specs.Tabulate.{tabulate}
 use Rattle.cell.specs.Records.{recordOf, recordAt, recordsOf}
 use Rattle.cell.proofs.Lists.{tabulate-length, tabulate-at}
 use Rattle.cell.proofs.RoundTrips.{low, high}
-use Rattle.netlist.specs.Areas.{wordRecord, storeWords, recordsIn, wordsIn, marksIn, Within}
+use Rattle.netlist.specs.Areas.{wordRecord, storeWords, recordsIn, wordsIn, marksIn, Within, visitedAt}
 use Rattle.netlist.proofs.Frames.{within-none, within-then, within-wider, within-set, record-kept, tabulate-same}
 
 -- the words after the first, the second and the third store
@@ -106,10 +106,10 @@ pub record Loading (t : List ℕ) (n : ℕ) (ws₀ ws : List ℕ) (s : ℕ) : Ty
   pub upto : s ≤ n
   pub long : 16384 ≤ length ws₀
   pub loaded : (u : ℕ) → u < s → wordRecord ws u ≡ recordAt t u
-  pub frame : Within 0 4096 ws₀ ws
+  pub frame : Within 0 visitedAt ws₀ ws
 
 pub loading-none : (t : List ℕ) (n : ℕ) (ws : List ℕ) → 16384 ≤ length ws → Loading t n ws ws 0
-loading-none t n ws h = record { upto = omega arith; long = h; loaded = λ u l. absurd (omega arith); frame = within-none 0 4096 ws }
+loading-none t n ws h = record { upto = omega arith; long = h; loaded = λ u l. absurd (omega arith); frame = within-none 0 visitedAt ws }
 
 module _ (t : List ℕ) (n : ℕ) (ws₀ ws : List ℕ) (s : ℕ) (g : Loading t n ws₀ ws s) where
   pub loading-more : n ≤ 512 → s < n → (ws′ : List ℕ) (r : Record) → r ≡ recordAt t s → ws′ ≡ storeWords ws s r → ((k : ℕ) → getD t k 0 < 256) → Loading t n ws₀ ws′ (s + 1)
@@ -119,8 +119,8 @@ module _ (t : List ℕ) (n : ℕ) (ws₀ ws : List ℕ) (s : ℕ) (g : Loading t
         upto = omega arith;
         long = g .long;
         loaded = λ u m. go u m long (sized t s r bytes e) (decLt u s);
-        frame = within-then 0 4096 ws₀ ws (storeWords ws s r) (g .frame)
-            (within-wider (s * 4) (s * 4 + 4) 0 4096 ws (storeWords ws s r) (omega arith) (omega arith) (store-within ws s r));
+        frame = within-then 0 visitedAt ws₀ ws (storeWords ws s r) (g .frame)
+            (within-wider (s * 4) (s * 4 + 4) 0 visitedAt ws (storeWords ws s r) (omega arith) (omega arith) (store-within ws s r));
       })
     where
       go : (u : ℕ) → u < s + 1 → 16384 ≤ length ws → Sized r → Dec (u < s) → wordRecord (storeWords ws s r) u ≡ recordAt t u
@@ -133,5 +133,5 @@ module _ (t : List ℕ) (n : ℕ) (ws₀ ws : List ℕ) (s : ℕ) (g : Loading t
   unfolding recordsIn recordsOf
   loading-all e h = tabulate-same (wordRecord ws) (recordAt t) n (λ u l. g .loaded u (omega arith)) ∙ ap (tabulate (recordAt t)) e
 
-  pub loading-frame : Within 0 4096 ws₀ ws
+  pub loading-frame : Within 0 visitedAt ws₀ ws
   loading-frame = g .frame

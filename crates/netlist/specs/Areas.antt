@@ -24,7 +24,8 @@ storeWords ws s r =
 unfoldable pub recordsIn : ℕ → List ℕ → List Record
 recordsIn n ws = tabulate (wordRecord ws) n
 
--- behind them areas of a word a slot
+-- behind them areas of a word a slot, each up to where the next begins: the marks of a walk; the order that it gives; what nets are replaced
+-- by; a figure of each slot, its level or its stamp
 abbrev pub visitedAt : ℕ
 visitedAt = 4096
 
@@ -36,6 +37,26 @@ replacedAt = 6144
 
 abbrev pub figuresAt : ℕ
 figuresAt = 7168
+
+-- the numberer's areas: of its keys a number each, a word; the keys, four words each, counted in words and as `wordRecord` counts
+abbrev pub mixesAt : ℕ
+mixesAt = 8192
+
+abbrev pub numbererFrom : ℕ
+numbererFrom = 9216
+
+abbrev pub numbererAt : ℕ
+numbererAt = 2304
+
+-- the keys of a cell that is being merged, four words each, counted both ways; behind them nothing is used
+abbrev pub keysFrom : ℕ
+keysFrom = 13312
+
+abbrev pub keysAt : ℕ
+keysAt = 3328
+
+abbrev pub freeAt : ℕ
+freeAt = 15360
 
 -- an area's first n words, as numbers and as marks (a word that is not 0)
 unfoldable pub wordsIn : ℕ → ℕ → List ℕ → List ℕ

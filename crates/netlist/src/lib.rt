@@ -7,7 +7,9 @@ ghost use Prim.Native.Nat.{_*_, _/_, _≤_, _<_};
 ghost use lib.ListN.{length};
 ghost use Rattle.cell.specs.Records.{cellOf, recordsOf};
 ghost use Rattle.netlist.specs.Shape.{hasEffects};
-ghost use Rattle.netlist.specs.Areas.{wordRecord, storeWords, recordsIn, Within};
+ghost use Rattle.netlist.specs.Areas.{wordRecord, storeWords, recordsIn, Within, visitedAt};
+
+pub mod area;
 
 // `Cell::has_effects`: inputs and outputs, of the kinds that a ticket has.
 pub fn has_effects(c: Cell) -> bool
@@ -67,7 +69,7 @@ pub fn load(work: &mut [u32], ticket: &[u8], n: u32)
     requires { ⌜ n ≡ length (now ticket) / 16 ⌝ }
     requires { ⌜ n ≤ 512 ⌝ }
     ensures { λ _. ⌜ recordsIn n (now (work .exit)) ≡ recordsOf (now (ticket .entry)) ⌝ }
-    ensures { λ _. ⌜ Within 0 4096 (now (work .entry)) (now (work .exit)) ⌝ }
+    ensures { λ _. ⌜ Within 0 visitedAt (now (work .entry)) (now (work .exit)) ⌝ }
 {
     let mut s: u32 = 0;
     while s < n {

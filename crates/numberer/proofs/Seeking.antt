@@ -14,7 +14,7 @@ use Rattle.cell.specs.declared.Record.{Record}
 use Rattle.cell.specs.declared.Cell.{Cell}
 use Rattle.cell.specs.Records.{cellOf}
 use Rattle.cell.specs.Tabulate.{tabulate}
-use Rattle.netlist.specs.Areas.{wordRecord}
+use Rattle.netlist.specs.Areas.{wordRecord, numbererAt}
 use Rattle.design.specs.declared.Found.the-variants.{Nothing, At}
 use Rattle.design.specs.Queue.{Entry, netIn, eqRecord, eqCell, seek}
 use Rattle.numberer.specs.Words.{entryOf, numbererIn, IsCell, Entered}
@@ -63,7 +63,7 @@ seek-past (d ∷ xs) ys c e = go (eqCell (d .0) c) e (seek-past xs ys c)
 
 module _ (ws : List ℕ) (c : Cell) where
   abbrev entry : ℕ → Entry
-  entry i = entryOf (wordRecord ws (2304 + i))
+  entry i = entryOf (wordRecord ws (numbererAt + i))
 
   pub one-of : (i : ℕ) → seek (numbererIn i ws) c ≡ Nothing → seek (numbererIn (suc i) ws) c ≡ cond (eqCell (entry i .0) c) (At (entry i .1)) Nothing
   unfolding numbererIn tabulate seek
@@ -94,11 +94,11 @@ module _ (k : ℕ) (ws : List ℕ) (key : Record) (i : ℕ) (g : Seeking k ws ke
   pub seeking-end : k ≤ i → Nothing ≡ seek (numbererIn k ws) (cellOf key)
   seeking-end h = let q : i ≡ k = let u : i ≤ k = g .upto in omega arith in sym (subst (λ (j : ℕ). seek (numbererIn j ws) (cellOf key) ≡ Nothing) q (g .missed))
 
-  module _ (l : i < k) (en : Entered k ws) (z : IsCell key) (b : Bool) (b-is : b ≡ eqRecord (wordRecord ws (2304 + i)) key) where
-    tested : b ≡ eqCell (cellOf (wordRecord ws (2304 + i))) (cellOf key)
-    tested = b-is ∙ eq-cells (wordRecord ws (2304 + i)) key (en .each i l) z
+  module _ (l : i < k) (en : Entered k ws) (z : IsCell key) (b : Bool) (b-is : b ≡ eqRecord (wordRecord ws (numbererAt + i)) key) where
+    tested : b ≡ eqCell (cellOf (wordRecord ws (numbererAt + i))) (cellOf key)
+    tested = b-is ∙ eq-cells (wordRecord ws (numbererAt + i)) key (en .each i l) z
 
-    pub seeking-found : b ≡ true → (r : Record) → r ≡ wordRecord ws (2304 + i) → (x : Net) → x ≡ netOf (slotAt (r .bit)) → At x ≡ seek (numbererIn k ws) (cellOf key)
+    pub seeking-found : b ≡ true → (r : Record) → r ≡ wordRecord ws (numbererAt + i) → (x : Net) → x ≡ netOf (slotAt (r .bit)) → At x ≡ seek (numbererIn k ws) (cellOf key)
     seeking-found t r r-is x e =
         ap At (e ∙ ap (λ (y : Record). netIn (y .bit)) r-is) ∙ sym (at-first ws (cellOf key) k i l (g .missed) (sym tested ∙ t))
 

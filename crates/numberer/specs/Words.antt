@@ -8,21 +8,14 @@ use Rattle.cell.specs.declared.Record.{Record}
 use Rattle.cell.specs.declared.Cell.{Cell}
 use Rattle.cell.specs.Records.{cellOf, cellRecord}
 use Rattle.cell.specs.Tabulate.{tabulate}
-use Rattle.netlist.specs.Areas.{wordRecord, Within}
+use Rattle.netlist.specs.Areas.{wordRecord, Within, keysFrom, mixesAt, numbererAt}
 use Rattle.design.specs.Queue.{Entry, netIn}
 
 -- a number that equal keys have in common; it does not look at the bit
 unfoldable pub mixOf : Record → ℕ
 mixOf r = r .a % 2048 + 2048 * (r .b % 2048 + 2048 * (r .kind % 16 + 16 * (r .flags % 4 + 4 * (r .c % 16))))
 
--- keys stand as records whose bit is the slot of the cell, four words each, from word 9216 on
-abbrev pub numbererAt : ℕ
-numbererAt = 2304
-
--- and their numbers, a word each
-abbrev pub mixesAt : ℕ
-mixesAt = 8192
-
+-- keys stand as records whose bit is the slot of the cell
 abbrev pub entryOf : Record → Entry
 entryOf r = (cellOf r, netIn (r .bit))
 
@@ -53,4 +46,4 @@ pub record Inserts (k s : ℕ) (c : Cell) (ws ws′ : List ℕ) : Type 0 where
   pub said : numbererIn (k + 1) ws′ ≡ numbererIn k ws ++ ((c, netIn s) ∷ [])
   pub entered : Entered k ws → Entered (k + 1) ws′
   pub mixed : Mixed k ws → Mixed (k + 1) ws′
-  pub frame : Within 8192 13312 ws ws′
+  pub frame : Within mixesAt keysFrom ws ws′

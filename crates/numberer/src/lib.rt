@@ -2,21 +2,16 @@
 // Its entries are keys in an area of the work slice, each as a record whose bit is the slot of the cell.
 use cell::Record;
 use design::Found;
+use netlist::area;
 use value::Net;
 use value::Slot;
 ghost use mathlib.Core.Path.{_≡_};
 ghost use Prim.Native.Nat.{_+_, _≤_, _<_};
 ghost use lib.ListN.{length, set};
 ghost use Rattle.cell.specs.Records.{cellOf};
-ghost use Rattle.netlist.specs.Areas.{wordRecord, storeWords};
+ghost use Rattle.netlist.specs.Areas.{wordRecord, storeWords, numbererAt, mixesAt};
 ghost use Rattle.design.specs.Queue.{eqRecord, seek};
-ghost use Rattle.numberer.specs.Words.{mixOf, numbererAt, mixesAt, numbererIn, IsCell, Entered, MixedAt, Mixed, Counts};
-
-// Where the keys stand, as slots of four words.
-const NUMBERER: u32 = 2304;
-
-// Where the mixes of the keys stand, a word each.
-const MIXES: usize = 8192;
+ghost use Rattle.numberer.specs.Words.{mixOf, numbererIn, IsCell, Entered, MixedAt, Mixed, Counts};
 
 fn same_key(x: Record, y: Record) -> bool
     ensures { λ r. ⌜ r ≡ eqRecord x y ⌝ }
@@ -47,7 +42,7 @@ fn count_mix(work: &[u32], k: u32, x: u32) -> u32
     let mut i: usize = 0;
     let mut count: u32 = 0;
     while i < end {
-        count += logic::pick32(work[MIXES + i] == x, 1, 0);
+        count += logic::pick32(work[area::MIXES + i] == x, 1, 0);
         i += 1;
     }
     count
@@ -60,8 +55,8 @@ fn same_at(work: &[u32], i: u32, key: Record, x: u32) -> bool
     requires { ⌜ x ≡ mixOf key ⌝ }
     ensures { λ r. ⌜ r ≡ eqRecord (wordRecord (now (work .entry)) (numbererAt + i)) key ⌝ }
 {
-    if cell::word(work, MIXES + (i as usize)) == x {
-        return same_key(netlist::record_in(work, Slot(NUMBERER + i)), key);
+    if cell::word(work, area::MIXES + (i as usize)) == x {
+        return same_key(netlist::record_in(work, Slot(area::NUMBERER + i)), key);
     }
     false
 }
@@ -78,7 +73,7 @@ fn find_first(work: &[u32], k: u32, key: Record, x: u32) -> Found
     let mut i: u32 = 0;
     while i < k {
         if same_at(work, i, key, x) {
-            let r = netlist::record_in(work, Slot(NUMBERER + i));
+            let r = netlist::record_in(work, Slot(area::NUMBERER + i));
             return Found::At(Net::from_cell_index(Slot(r.bit as u32)));
         }
         i += 1;
@@ -109,6 +104,6 @@ pub fn insert(work: &mut [u32], k: u32, key: Record)
     requires { ⌜ k < 1024 ⌝ }
     ensures { λ _. ⌜ now (work .exit) ≡ set (storeWords (now (work .entry)) (numbererAt + k) key) (mixesAt + k) (mixOf key) ⌝ }
 {
-    netlist::put_record(work, Slot(NUMBERER + k), key);
-    cell::put(work, MIXES + (k as usize), mix(key));
+    netlist::put_record(work, Slot(area::NUMBERER + k), key);
+    cell::put(work, area::MIXES + (k as usize), mix(key));
 }

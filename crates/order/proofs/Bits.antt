@@ -27,7 +27,7 @@ use Rattle.cell.specs.Records.{recordOf, cellOf}
 use Rattle.cell.proofs.Lists.{tabulate-length, tabulate-at}
 use Rattle.netlist.specs.Shape.{visit, isInput, isOutput}
 use Rattle.netlist.specs.Netlist.{cellIn, slots, those, joined, drivenBy, sources}
-use Rattle.netlist.specs.Areas.{wordRecord, recordsIn, wordsIn, orderAt}
+use Rattle.netlist.specs.Areas.{wordRecord, recordsIn, wordsIn, orderAt, visitedAt}
 use Rattle.order.specs.declared.Operands.{Operands}
 use Rattle.order.specs.Walk.{Walk, each, walkFrom, fresh}
 use Rattle.order.specs.Orders.{bitDeps, topoSort}
@@ -213,7 +213,7 @@ module _ (n count : ℕ) (ws ws₁ : List ℕ) (o : Operands) (c₁ : ℕ) (g : 
         (subst (λ (rs : List Record). Walks bitsBy (bitsOf rs (o .0)) n c₂ ws₂ ws₃ c₃) (walks-records bitsBy n _ count ws ws₂ c₂ second g) v₃))
 
 -- a bit that was not visited
-module _ (n count : ℕ) (ws ws₁ ws₂ : List ℕ) (s : ℕ) (g : Ready n count ws) (new : visitedIn n ws s ≡ false) (o : ws₁ ≡ set ws (4096 + s) 1)
+module _ (n count : ℕ) (ws ws₁ ws₂ : List ℕ) (s : ℕ) (g : Ready n count ws) (new : visitedIn n ws s ≡ false) (o : ws₁ ≡ set ws (visitedAt + s) 1)
     (reads : Operands) (b : reads ≡ operandsOf (cellOf (wordRecord ws s))) (c : ℕ)
     (v : Walks bitsBy (operandBits (recordsIn n ws₁) reads) n count ws₁ ws₂ c) where
   down : Walks bitsBy (bitsBy (recordsIn n ws₁) s) n count ws₁ ws₂ c
@@ -226,7 +226,7 @@ module _ (n count : ℕ) (ws ws₁ ws₂ : List ℕ) (s : ℕ) (g : Ready n coun
   pub bit-next : Fits w32 (c + 1)
   bit-next = pushed-next n count ws ws₁ s g new o bitsBy ws₂ c down
 
-  pub bit-done : (ws₃ : List ℕ) → ws₃ ≡ set ws₂ (5120 + c) s → Walks bitsBy (s ∷ []) n count ws ws₃ (c + 1)
+  pub bit-done : (ws₃ : List ℕ) → ws₃ ≡ set ws₂ (orderAt + c) s → Walks bitsBy (s ∷ []) n count ws ws₃ (c + 1)
   bit-done ws₃ p = pushed n count ws ws₁ s g new o bitsBy ws₂ c down ws₃ p
 
 sorted : (n count : ℕ) (ws ws₀ : List ℕ) → walkOf n count ws ≡ walkFrom n (bitsBy (recordsIn n ws₀)) (slots n) (fresh n)

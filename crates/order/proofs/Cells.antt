@@ -14,7 +14,7 @@ use Rattle.cell.specs.declared.Record.{Record}
 use Rattle.cell.specs.Tabulate.{tabulate}
 use Rattle.cell.specs.Records.{cellOf}
 use Rattle.netlist.specs.Netlist.{netlistOf, cellDeps, slots, those, anyOf, outputOf}
-use Rattle.netlist.specs.Areas.{recordsIn}
+use Rattle.netlist.specs.Areas.{recordsIn, orderAt, visitedAt}
 use Rattle.order.specs.Walk.{Walk, each, walk}
 use Rattle.order.specs.Code.{walkOf, visitedIn, unvisitedIn, cellsBy, Ready, Walks}
 use Rattle.order.specs.Descent.{bitsIn, readBy, readUpTo, depsFrom, Lowest}
@@ -151,7 +151,7 @@ module _ (n count : ℕ) (ws : List ℕ) (s from x : ℕ) (v : Lowest n ws from 
         }
 
 -- a cell that was not visited
-module _ (n count : ℕ) (ws ws₁ ws₂ : List ℕ) (s : ℕ) (g : Ready n count ws) (new : visitedIn n ws s ≡ false) (o : ws₁ ≡ set ws (4096 + s) 1)
+module _ (n count : ℕ) (ws ws₁ ws₂ : List ℕ) (s : ℕ) (g : Ready n count ws) (new : visitedIn n ws s ≡ false) (o : ws₁ ≡ set ws (visitedAt + s) 1)
     (c : ℕ) (v : Walks cellsBy (depsFrom (recordsIn n ws₁) s 0) n count ws₁ ws₂ c) where
   down : Walks cellsBy (cellsBy (recordsIn n ws₁) s) n count ws₁ ws₂ c
   down = subst (λ (xs : List ℕ). Walks cellsBy xs n count ws₁ ws₂ c) (deps-all (recordsIn n ws₁) s) v
@@ -159,7 +159,7 @@ module _ (n count : ℕ) (ws ws₁ ws₂ : List ℕ) (s : ℕ) (g : Ready n coun
   pub cell-next : Fits w32 (c + 1)
   cell-next = pushed-next n count ws ws₁ s g new o cellsBy ws₂ c down
 
-  pub cell-done : (ws₃ : List ℕ) → ws₃ ≡ set ws₂ (5120 + c) s → Walks cellsBy (s ∷ []) n count ws ws₃ (c + 1)
+  pub cell-done : (ws₃ : List ℕ) → ws₃ ≡ set ws₂ (orderAt + c) s → Walks cellsBy (s ∷ []) n count ws ws₃ (c + 1)
   cell-done ws₃ p = pushed n count ws ws₁ s g new o cellsBy ws₂ c down ws₃ p
 
 -- a cell was walked to: there are fewer unvisited than before

@@ -102,7 +102,7 @@ module _ (n count : ℕ) (ws : List ℕ) (s x : ℕ) (e : x ≡ getD (bitsIn (re
     pub emit-left : b ≡ false → Emits (startsThat isInput (recordsIn n ws) (s ∷ [])) s n count ws ws count
     emit-left f = emits-none _ s n count ws (starts-left isInput n ws s x e z (new-below n ws s new) (sym i ∙ f))
 
-    module _ (g : Ready n count ws) (ws₁ ws₂ : List ℕ) (o : ws₁ ≡ set ws (4096 + s) 1) (p : ws₂ ≡ set ws₁ (5120 + count) s) where
+    module _ (g : Ready n count ws) (ws₁ ws₂ : List ℕ) (o : ws₁ ≡ set ws (visitedAt + s) 1) (p : ws₂ ≡ set ws₁ (orderAt + count) s) where
       below : count < 1024
       below = omega (arith, g .room, count-set (walkOf n count ws .visited) s (visited-of n count ws s ∙ new), unvisited-of n count ws)
 
@@ -128,9 +128,9 @@ module _ (n count : ℕ) (ws : List ℕ) (s x : ℕ) (e : x ≡ getD (bitsIn (re
                 sym (visited-of n (count + 1) ws₂ u) ∙ ap (λ (w : Walk). isVisited w u) emitted
                 ∙ getD-set-other (walkOf n count ws .visited) s u true true h ∙ visited-of n count ws u;
             frame = within-then visitedAt replacedAt ws ws₁ ws₂
-                (within-wider 4096 5120 visitedAt replacedAt ws ws₁ (omega arith) (omega arith) (marked-frame n count ws ws₁ s g new o))
+                (within-wider visitedAt orderAt visitedAt replacedAt ws ws₁ (omega arith) (omega arith) (marked-frame n count ws ws₁ s g new o))
                 (subst (λ (vs : List ℕ). Within visitedAt replacedAt ws₁ vs) (sym p)
-                (within-wider 5120 6144 visitedAt replacedAt ws₁ (set ws₁ (5120 + count) s) (omega arith) (omega arith)
+                (within-wider orderAt replacedAt visitedAt replacedAt ws₁ (set ws₁ (orderAt + count) s) (omega arith) (omega arith)
                 (order-frame n ws₁ count s (r .few) (r .long) below)));
           })
 
@@ -254,7 +254,7 @@ module _ (n count : ℕ) (ws : List ℕ) (s x : ℕ) (e : x ≡ getD (bitsIn (re
     pub append-left : b ≡ false → Appends (startsThat isOutput (recordsIn n ws) (s ∷ [])) count ws ws count
     append-left f = appends-none _ count ws (starts-left isOutput n ws s x e z l (sym i ∙ f))
 
-    pub append-done : b ≡ true → Free n count ws → (ws′ : List ℕ) → ws′ ≡ set ws (5120 + count) s
+    pub append-done : b ≡ true → Free n count ws → (ws′ : List ℕ) → ws′ ≡ set ws (orderAt + count) s
         → Appends (startsThat isOutput (recordsIn n ws) (s ∷ [])) count ws ws′ (count + 1)
     append-done t g ws′ p =
         subst (λ (vs : List ℕ). Appends (startsThat isOutput (recordsIn n ws) (s ∷ [])) count ws vs (count + 1)) (sym p) (record {

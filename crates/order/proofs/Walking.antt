@@ -117,12 +117,12 @@ pub is-new : (n : ℕ) (ws : List ℕ) (s : ℕ) (b : Bool) → b ≡ visitedIn 
 is-new n ws s b e f = sym e ∙ f
 
 -- an item that was not visited is marked
-module _ (n count : ℕ) (ws ws₁ : List ℕ) (s : ℕ) (g : Ready n count ws) (new : visitedIn n ws s ≡ false) (o : ws₁ ≡ set ws (4096 + s) 1) where
+module _ (n count : ℕ) (ws ws₁ : List ℕ) (s : ℕ) (g : Ready n count ws) (new : visitedIn n ws s ≡ false) (o : ws₁ ≡ set ws (visitedAt + s) 1) where
   pub marked : (c : ℕ) → walkOf n c ws₁ ≡ mark s (walkOf n c ws)
   marked c = ap (walkOf n c) o ∙ walk-marked n ws s (g .few) (g .long) (new-below n ws s new) c
 
-  pub marked-frame : Within 4096 5120 ws ws₁
-  marked-frame = subst (λ (vs : List ℕ). Within 4096 5120 ws vs) (sym o) (marks-frame n ws s (g .few) (g .long) (new-below n ws s new))
+  pub marked-frame : Within visitedAt orderAt ws ws₁
+  marked-frame = subst (λ (vs : List ℕ). Within visitedAt orderAt ws vs) (sym o) (marks-frame n ws s (g .few) (g .long) (new-below n ws s new))
 
   pub marked-fewer : suc (unvisitedIn n ws₁) ≡ unvisitedIn n ws
   marked-fewer =
@@ -140,7 +140,7 @@ module _ (n count : ℕ) (ws ws₁ : List ℕ) (s : ℕ) (g : Ready n count ws) 
   marked-falls t f l q = omega (arith, marked-fewer)
 
   pub marked-records : recordsIn n ws₁ ≡ recordsIn n ws
-  marked-records = records-kept 4096 5120 ws ws₁ marked-frame n (let l : n ≤ 1024 = g .few in omega arith)
+  marked-records = records-kept visitedAt orderAt ws ws₁ marked-frame n (let l : n ≤ 1024 = g .few in omega arith)
 
   -- then what it depends on, then itself
   module _ (by : List Record → ℕ → List ℕ) (ws₂ : List ℕ) (c : ℕ) (v : Walks by (by (recordsIn n ws₁) s) n count ws₁ ws₂ c) where
@@ -157,7 +157,7 @@ module _ (n count : ℕ) (ws ws₁ : List ℕ) (s : ℕ) (g : Ready n count ws) 
         ∙ ap (λ (rs : List Record). each (walk j (by rs)) (by rs s) (walkOf n count ws₁)) marked-records
         ∙ ap (each (walk j (by (recordsIn n ws))) (by (recordsIn n ws) s)) (marked count)
 
-    pub pushed : (ws₃ : List ℕ) → ws₃ ≡ set ws₂ (5120 + c) s → Walks by (s ∷ []) n count ws ws₃ (c + 1)
+    pub pushed : (ws₃ : List ℕ) → ws₃ ≡ set ws₂ (orderAt + c) s → Walks by (s ∷ []) n count ws ws₃ (c + 1)
     unfolding each
     pushed ws₃ p =
         let long : 16384 ≤ length ws₂ = let l : 16384 ≤ length ws₁ = marked-ready .long in omega (arith, v .frame .same) in
@@ -166,10 +166,10 @@ module _ (n count : ℕ) (ws ws₁ : List ℕ) (s : ℕ) (g : Ready n count ws) 
               walk-pushed n ws₂ c s (g .few) long pushed-below
               ∙ walk-down (by (recordsIn n ws)) k s (walkOf n count ws) (walkOf n c ws₂) (visited-of n count ws s ∙ new)
               (omega (arith, unvisited-of n count ws)) deps-said;
-          frame = within-then visitedAt replacedAt ws ws₁ (set ws₂ (5120 + c) s)
-              (within-wider 4096 5120 visitedAt replacedAt ws ws₁ (omega arith) (omega arith) marked-frame)
-              (within-then visitedAt replacedAt ws₁ ws₂ (set ws₂ (5120 + c) s) (v .frame)
-              (within-wider 5120 6144 visitedAt replacedAt ws₂ (set ws₂ (5120 + c) s) (omega arith) (omega arith)
+          frame = within-then visitedAt replacedAt ws ws₁ (set ws₂ (orderAt + c) s)
+              (within-wider visitedAt orderAt visitedAt replacedAt ws ws₁ (omega arith) (omega arith) marked-frame)
+              (within-then visitedAt replacedAt ws₁ ws₂ (set ws₂ (orderAt + c) s) (v .frame)
+              (within-wider orderAt replacedAt visitedAt replacedAt ws₂ (set ws₂ (orderAt + c) s) (omega arith) (omega arith)
               (order-frame n ws₂ c s (g .few) long pushed-below)));
         })
 

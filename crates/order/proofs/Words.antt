@@ -13,7 +13,7 @@ use borrow.Author.Count.{below-more}
 use borrow.Author.Tests.{eqb-true, eqb-false}
 use Rattle.cell.specs.Tabulate.{tabulate}
 use Rattle.cell.proofs.Lists.{tabulate-length, tabulate-at}
-use Rattle.netlist.specs.Areas.{wordsIn, marksIn, Within, visitedAt, orderAt}
+use Rattle.netlist.specs.Areas.{wordsIn, marksIn, Within, visitedAt, orderAt, replacedAt}
 use Rattle.netlist.proofs.Frames.{within-none, within-then, within-set, words-kept, marks-kept, tabulate-same}
 use Rattle.order.specs.Walk.{mark, push}
 use Rattle.order.specs.Code.{walkOf, visitedIn, Clears}
@@ -41,11 +41,11 @@ tabulate-set {A} d f g n s v l here there =
 
 pub marks-length : (n : ℕ) (ws : List ℕ) → length (marksIn visitedAt n ws) ≡ n
 unfolding marksIn
-marks-length n ws = tabulate-length (λ i. not (eqb (getD ws (4096 + i) 0) 0)) n
+marks-length n ws = tabulate-length (λ i. not (eqb (getD ws (visitedAt + i) 0) 0)) n
 
-pub mark-at : (n : ℕ) (ws : List ℕ) (s : ℕ) → s < n → visitedIn n ws s ≡ not (eqb (getD ws (4096 + s) 0) 0)
+pub mark-at : (n : ℕ) (ws : List ℕ) (s : ℕ) → s < n → visitedIn n ws s ≡ not (eqb (getD ws (visitedAt + s) 0) 0)
 unfolding visitedIn marksIn
-mark-at n ws s l = tabulate-at (λ i. not (eqb (getD ws (4096 + i) 0) 0)) n true s l
+mark-at n ws s l = tabulate-at (λ i. not (eqb (getD ws (visitedAt + i) 0) 0)) n true s l
 
 pub mark-past : (n : ℕ) (ws : List ℕ) (s : ℕ) → n ≤ s → visitedIn n ws s ≡ true
 unfolding visitedIn
@@ -55,71 +55,71 @@ pub new-below : (n : ℕ) (ws : List ℕ) (s : ℕ) → visitedIn n ws s ≡ fal
 unfolding visitedIn
 new-below n ws s e = omega (arith, inside (marksIn visitedAt n ws) s e, marks-length n ws)
 
-pub mark-word : (n : ℕ) (ws : List ℕ) (s x : ℕ) → s < n → x ≡ getD ws (4096 + s) 0 → not (eqb x 0) ≡ visitedIn n ws s
+pub mark-word : (n : ℕ) (ws : List ℕ) (s x : ℕ) → s < n → x ≡ getD ws (visitedAt + s) 0 → not (eqb x 0) ≡ visitedIn n ws s
 mark-word n ws s x l e = ap (λ (y : ℕ). not (eqb y 0)) e ∙ sym (mark-at n ws s l)
 
 pub mark-none : (n : ℕ) (ws : List ℕ) (s : ℕ) → n ≤ s → true ≡ visitedIn n ws s
 mark-none n ws s l = sym (mark-past n ws s l)
 
 module _ (n : ℕ) (ws : List ℕ) (s : ℕ) (few : n ≤ 1024) (long : 16384 ≤ length ws) (below : s < n) where
-  marks-set : marksIn visitedAt n (set ws (4096 + s) 1) ≡ set (marksIn visitedAt n ws) s true
+  marks-set : marksIn visitedAt n (set ws (visitedAt + s) 1) ≡ set (marksIn visitedAt n ws) s true
   unfolding marksIn
   marks-set =
-      tabulate-set true (λ i. not (eqb (getD ws (4096 + i) 0) 0)) (λ i. not (eqb (getD (set ws (4096 + s) 1) (4096 + i) 0) 0)) n s true below
-      (ap (λ (x : ℕ). not (eqb x 0)) (getD-set-same ws (4096 + s) 1 0 (omega arith)))
-      (λ i d. ap (λ (x : ℕ). not (eqb x 0)) (getD-set-other ws (4096 + s) (4096 + i) 1 0 (λ e. d (omega arith))))
+      tabulate-set true (λ i. not (eqb (getD ws (visitedAt + i) 0) 0)) (λ i. not (eqb (getD (set ws (visitedAt + s) 1) (visitedAt + i) 0) 0)) n s true below
+      (ap (λ (x : ℕ). not (eqb x 0)) (getD-set-same ws (visitedAt + s) 1 0 (omega arith)))
+      (λ i d. ap (λ (x : ℕ). not (eqb x 0)) (getD-set-other ws (visitedAt + s) (visitedAt + i) 1 0 (λ e. d (omega arith))))
 
-  pub marks-frame : Within 4096 5120 ws (set ws (4096 + s) 1)
-  marks-frame = within-set 4096 5120 ws (4096 + s) 1 (omega arith) (omega arith)
+  pub marks-frame : Within visitedAt orderAt ws (set ws (visitedAt + s) 1)
+  marks-frame = within-set visitedAt orderAt ws (visitedAt + s) 1 (omega arith) (omega arith)
 
-  pub walk-marked : (count : ℕ) → walkOf n count (set ws (4096 + s) 1) ≡ mark s (walkOf n count ws)
+  pub walk-marked : (count : ℕ) → walkOf n count (set ws (visitedAt + s) 1) ≡ mark s (walkOf n count ws)
   unfolding walkOf
   walk-marked count =
-      rw (marks-set, words-kept 4096 5120 ws (set ws (4096 + s) 1) marks-frame 5120 count (inr (omega arith)))
+      rw (marks-set, words-kept visitedAt orderAt ws (set ws (visitedAt + s) 1) marks-frame orderAt count (inr (omega arith)))
 
 module _ (n : ℕ) (ws : List ℕ) (count s : ℕ) (few : n ≤ 1024) (long : 16384 ≤ length ws) (below : count < 1024) where
-  pub order-frame : Within 5120 6144 ws (set ws (5120 + count) s)
-  order-frame = within-set 5120 6144 ws (5120 + count) s (omega arith) (omega arith)
+  pub order-frame : Within orderAt replacedAt ws (set ws (orderAt + count) s)
+  order-frame = within-set orderAt replacedAt ws (orderAt + count) s (omega arith) (omega arith)
 
-  pub words-push : wordsIn orderAt (count + 1) (set ws (5120 + count) s) ≡ wordsIn orderAt count ws ++ (s ∷ [])
+  pub words-push : wordsIn orderAt (count + 1) (set ws (orderAt + count) s) ≡ wordsIn orderAt count ws ++ (s ∷ [])
   unfolding wordsIn tabulate
   words-push = rw (
     add-one count,
-    tabulate-same (λ i. getD (set ws (5120 + count) s) (5120 + i) 0) (λ i. getD ws (5120 + i) 0) count
-        (λ i l. getD-set-other ws (5120 + count) (5120 + i) s 0 (λ e. absurd (omega arith))),
-    getD-set-same ws (5120 + count) s 0 (omega arith),
+    tabulate-same (λ i. getD (set ws (orderAt + count) s) (orderAt + i) 0) (λ i. getD ws (orderAt + i) 0) count
+        (λ i l. getD-set-other ws (orderAt + count) (orderAt + i) s 0 (λ e. absurd (omega arith))),
+    getD-set-same ws (orderAt + count) s 0 (omega arith),
   )
 
-  pub walk-pushed : walkOf n (count + 1) (set ws (5120 + count) s) ≡ push s (walkOf n count ws)
+  pub walk-pushed : walkOf n (count + 1) (set ws (orderAt + count) s) ≡ push s (walkOf n count ws)
   unfolding walkOf
-  walk-pushed = rw (words-push, marks-kept 5120 6144 ws (set ws (5120 + count) s) order-frame 4096 n (inl (omega arith)))
+  walk-pushed = rw (words-push, marks-kept orderAt replacedAt ws (set ws (orderAt + count) s) order-frame visitedAt n (inl (omega arith)))
 
 -- the marks of the first i items are off
 pub record Clearing (n : ℕ) (ws ws′ : List ℕ) (i : ℕ) : Type 0 where
   pub upto : i ≤ n
   pub few : n ≤ 1024
-  pub blank : (u : ℕ) → u < i → getD ws′ (4096 + u) 0 ≡ 0
+  pub blank : (u : ℕ) → u < i → getD ws′ (visitedAt + u) 0 ≡ 0
   pub frame : Within visitedAt orderAt ws ws′
 
 pub clearing-none : (n : ℕ) (ws : List ℕ) → n ≤ 1024 → Clearing n ws ws 0
 clearing-none n ws h = record { upto = omega arith; few = h; blank = λ u l. absurd (omega arith); frame = within-none visitedAt orderAt ws }
 
 module _ (n : ℕ) (ws ws′ : List ℕ) (i : ℕ) (g : Clearing n ws ws′ i) where
-  pub clearing-more : 16384 ≤ length ws → i < n → (ws″ : List ℕ) → ws″ ≡ set ws′ (4096 + i) 0 → Clearing n ws ws″ (i + 1)
+  pub clearing-more : 16384 ≤ length ws → i < n → (ws″ : List ℕ) → ws″ ≡ set ws′ (visitedAt + i) 0 → Clearing n ws ws″ (i + 1)
   clearing-more h l ws″ e = subst (λ (vs : List ℕ). Clearing n ws vs (i + 1)) (sym e) (record {
     upto = omega arith;
     few = g .few;
-    blank = below-more (λ u. getD (set ws′ (4096 + i) 0) (4096 + u) 0 ≡ 0) i
-        (λ u k. getD-set-other ws′ (4096 + i) (4096 + u) 0 0 (λ q. absurd (omega arith)) ∙ g .blank u k)
-        (getD-set-same ws′ (4096 + i) 0 0 (omega (arith, g .few, g .frame .same)));
-    frame = within-then visitedAt orderAt ws ws′ (set ws′ (4096 + i) 0) (g .frame)
-        (within-set visitedAt orderAt ws′ (4096 + i) 0 (omega arith) (omega (arith, g .few)));
+    blank = below-more (λ u. getD (set ws′ (visitedAt + i) 0) (visitedAt + u) 0 ≡ 0) i
+        (λ u k. getD-set-other ws′ (visitedAt + i) (visitedAt + u) 0 0 (λ q. absurd (omega arith)) ∙ g .blank u k)
+        (getD-set-same ws′ (visitedAt + i) 0 0 (omega (arith, g .few, g .frame .same)));
+    frame = within-then visitedAt orderAt ws ws′ (set ws′ (visitedAt + i) 0) (g .frame)
+        (within-set visitedAt orderAt ws′ (visitedAt + i) 0 (omega arith) (omega (arith, g .few)));
   })
 
   pub clearing-all : n ≤ i → Clears n ws ws′
   unfolding marksIn
   clearing-all l = record {
-    blank = tabulate-same (λ u. not (eqb (getD ws′ (4096 + u) 0) 0)) (λ u. false) n (λ u k. ap (λ (x : ℕ). not (eqb x 0)) (g .blank u (omega arith)))
+    blank = tabulate-same (λ u. not (eqb (getD ws′ (visitedAt + u) 0) 0)) (λ u. false) n (λ u k. ap (λ (x : ℕ). not (eqb x 0)) (g .blank u (omega arith)))
         ∙ tabulate-replicate n false;
     frame = g .frame;
   }

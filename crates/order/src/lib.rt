@@ -1,5 +1,6 @@
 // Orders, after netlist/src/design.rs: the bits and the cells of a netlist, operands before readers. The marks of the walk and the
 // order stand in areas of the work slice behind the records.
+use netlist::area;
 use value::Driver;
 use value::Net;
 use value::Slot;
@@ -15,10 +16,6 @@ ghost use Rattle.netlist.specs.Areas.{wordRecord, recordsIn};
 ghost use Rattle.order.specs.Code.{Ready, Walks, Clears, Sorts, SortsCells, visitedIn, bitsBy, cellsBy};
 ghost use Rattle.order.specs.Descent.{operandsOf, bitsOf, operandBits, bitsIn, startsOf, bitReads, readBy, depsFrom, Lowest, Lowers};
 ghost use Rattle.order.specs.Starts.{startsThat, notOutput, Emits, PutsInputs, Free, Appends};
-
-const VISITED: usize = 4096;
-
-const ORDER: usize = 5120;
 
 // The nets that a cell reads, by field; a constant where there is none.
 struct Operands(Net, Net, Net);
@@ -54,7 +51,7 @@ fn is_visited(work: &[u32], n: u32, s: Slot) -> bool
     ensures { λ r. ⌜ r ≡ visitedIn n (now (work .entry)) (s .0) ⌝ }
 {
     if s.0 < n {
-        return cell::word(work, VISITED + (s.0 as usize)) != 0;
+        return cell::word(work, area::VISITED + (s.0 as usize)) != 0;
     }
     true
 }
@@ -67,7 +64,7 @@ pub fn clear_marks(work: &mut [u32], n: u32)
 {
     let mut i: u32 = 0;
     while i < n {
-        cell::put(work, VISITED + (i as usize), 0);
+        cell::put(work, area::VISITED + (i as usize), 0);
         i += 1;
     }
 }
@@ -90,9 +87,9 @@ fn visit_bit(work: &mut [u32], n: u32, s: Slot, count: u32) -> u32
     ensures { λ r. ⌜ Walks bitsBy (s .0 ∷ []) n count (now (work .entry)) (now (work .exit)) r ⌝ }
 {
     let reads = operands_at(work, s);
-    cell::put(work, VISITED + (s.0 as usize), 1);
+    cell::put(work, area::VISITED + (s.0 as usize), 1);
     let c = walk_operands(work, n, reads, count);
-    cell::put(work, ORDER + (c as usize), s.0);
+    cell::put(work, area::ORDER + (c as usize), s.0);
     c + 1
 }
 
@@ -230,9 +227,9 @@ fn visit_cell(work: &mut [u32], n: u32, s: Slot, count: u32) -> u32
     requires { ⌜ visitedIn n (now work) (s .0) ≡ false ⌝ }
     ensures { λ r. ⌜ Walks cellsBy (s .0 ∷ []) n count (now (work .entry)) (now (work .exit)) r ⌝ }
 {
-    cell::put(work, VISITED + (s.0 as usize), 1);
+    cell::put(work, area::VISITED + (s.0 as usize), 1);
     let c = walk_deps(work, n, s, 0, count);
-    cell::put(work, ORDER + (c as usize), s.0);
+    cell::put(work, area::ORDER + (c as usize), s.0);
     c + 1
 }
 
@@ -260,8 +257,8 @@ fn put_input(work: &mut [u32], n: u32, s: Slot, count: u32) -> u32
         return count;
     }
     if is_input(work, s) {
-        cell::put(work, VISITED + (s.0 as usize), 1);
-        cell::put(work, ORDER + (count as usize), s.0);
+        cell::put(work, area::VISITED + (s.0 as usize), 1);
+        cell::put(work, area::ORDER + (count as usize), s.0);
         return count + 1;
     }
     count
@@ -320,7 +317,7 @@ fn put_output(work: &mut [u32], n: u32, s: Slot, count: u32) -> u32
         return count;
     }
     if is_output(work, s) {
-        cell::put(work, ORDER + (count as usize), s.0);
+        cell::put(work, area::ORDER + (count as usize), s.0);
         return count + 1;
     }
     count

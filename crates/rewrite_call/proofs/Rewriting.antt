@@ -8,7 +8,7 @@ use lib.ListN.{length, drop}
 use borrow.Author.Tests.{lt-ltb, le-ltb}
 use Rattle.cell.specs.declared.Record.{Record}
 use Rattle.cell.specs.Records.{recordsOf}
-use Rattle.netlist.specs.Areas.{recordsIn, Within}
+use Rattle.netlist.specs.Areas.{recordsIn, Within, keysFrom, visitedAt}
 use Rattle.netlist.specs.Netlist.{netlistOf}
 use Rattle.netlist.proofs.Frames.{within-drop}
 use Rattle.design.specs.Queue.{findNewCell}
@@ -38,7 +38,7 @@ module _ (n : ℕ) (ws ws₁ : List ℕ) (r : Rewritten) (g : Rewrites n ws ws�
   pub rewritten-fits : (m : ℕ) → r ≡ To m → m ≤ 1024
   rewritten-fits m e = subst (Rewrites n ws ws₁) e g .fit
 
-  module _ (t ws₀ reply : List ℕ) (loaded : recordsIn n ws ≡ recordsOf t) (frame : Within 0 4096 ws₀ ws) where
+  module _ (t ws₀ reply : List ℕ) (loaded : recordsIn n ws ≡ recordsOf t) (frame : Within 0 visitedAt ws₀ ws) where
     abbrev bytes : List ℕ
     bytes = rewriteBytes findNewCell t
 
@@ -52,8 +52,8 @@ module _ (n : ℕ) (ws ws₁ : List ℕ) (r : Rewritten) (g : Rewrites n ws ws�
     unfolding rewriteRun
     same-run = ap (λ (rs : List Record). slotsOf (run findNewCell (netlistOf rs .cells))) loaded
 
-    behind : Within 0 13312 ws ws₁ → drop 16384 ws₁ ≡ drop 16384 ws₀
-    behind f = within-drop 0 13312 16384 ws ws₁ (omega arith) f ∙ within-drop 0 4096 16384 ws₀ ws (omega arith) frame
+    behind : Within 0 keysFrom ws ws₁ → drop 16384 ws₁ ≡ drop 16384 ws₀
+    behind f = within-drop 0 keysFrom 16384 ws ws₁ (omega arith) f ∙ within-drop 0 visitedAt 16384 ws₀ ws (omega arith) frame
 
     pub writes-none : r ≡ Full → Writes (rewriteStages findNewCell t reply) bytes ws₀ ws₁ reply reply (written.Refused SlotsExhausted)
     unfolding rewriteStages

@@ -12,7 +12,7 @@ use Rattle.value.specs.declared.Driver.{Driver}
 use Rattle.value.specs.declared.Driver.the-variants as driven
 use Rattle.value.specs.Value.{netAt, eqNet, driver}
 use Rattle.value.proofs.Laws.{cell-driver}
-use Rattle.netlist.specs.Areas.{Within}
+use Rattle.netlist.specs.Areas.{Within, figuresAt, replacedAt, visitedAt}
 use Rattle.netlist.specs.Shape.{visitMut}
 use Rattle.netlist.specs.Netlist.{Netlist, netlistOf}
 use Rattle.netlist.proofs.Frames.{within-then, within-wider, records-kept}
@@ -77,15 +77,15 @@ module _ (x : Extent) (ws ws₁ : List ℕ) (g : Running x ws) (p : Stands x ws 
       (mapNetNew-final (g .ticket) (rewriterIn x ws) (g .state .inv) m)
 
   netlist-same : netlistIn (x .slots) ws₁ ≡ netlistIn (x .slots) ws
-  netlist-same = let fit : x .slots ≤ 1024 = g .held .fit in ap netlistOf (records-kept 6144 7168 ws ws₁ (p .frame) (x .slots) (omega arith))
+  netlist-same = let fit : x .slots ≤ 1024 = g .held .fit in ap netlistOf (records-kept replacedAt figuresAt ws ws₁ (p .frame) (x .slots) (omega arith))
 
-  pub applies-all : (ws₂ : List ℕ) → netlistIn (x .slots) ws₂ ≡ appliedIn (x .slots) ws₁ → Within 0 4096 ws₁ ws₂ → AppliesAll x ws ws₂
+  pub applies-all : (ws₂ : List ℕ) → netlistIn (x .slots) ws₂ ≡ appliedIn (x .slots) ws₁ → Within 0 visitedAt ws₁ ws₂ → AppliesAll x ws ws₂
   unfolding appliedIn designIn applied rewriterIn
   applies-all ws₂ e f = record {
     cells = ap (λ (y : Netlist). y .cells) e
         ∙ ap (λ (y : Netlist). map (visitMut (mapNetNew rs′)) (y .cells)) netlist-same
         ∙ ap (λ (h : Net → Net). map (visitMut h) (netlistIn (x .slots) ws .cells)) (λ i m. mapped-same m i);
     bits = ap (λ (y : Netlist). y .bits) e ∙ ap (λ (y : Netlist). y .bits) netlist-same;
-    frame = within-then 0 7168 ws ws₁ ws₂ (within-wider 6144 7168 0 7168 ws ws₁ (omega arith) (omega arith) (p .frame))
-        (within-wider 0 4096 0 7168 ws₁ ws₂ (omega arith) (omega arith) f);
+    frame = within-then 0 figuresAt ws ws₁ ws₂ (within-wider replacedAt figuresAt 0 figuresAt ws ws₁ (omega arith) (omega arith) (p .frame))
+        (within-wider 0 visitedAt 0 figuresAt ws₁ ws₂ (omega arith) (omega arith) f);
   }

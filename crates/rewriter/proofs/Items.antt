@@ -12,7 +12,7 @@ use Rattle.cell.specs.declared.Record.{Record}
 use Rattle.cell.specs.Records.{cellOf, cellRecord}
 use Rattle.cell.specs.Tabulate.{tabulate}
 use Rattle.cell.proofs.RoundTrips.{cell-back}
-use Rattle.netlist.specs.Areas.{wordRecord, wordsIn, orderAt, Within}
+use Rattle.netlist.specs.Areas.{wordRecord, wordsIn, orderAt, Within, keysFrom}
 use Rattle.netlist.specs.Shape.{visitMut, hasEffects, isSplittable}
 use Rattle.netlist.specs.Netlist.{cellIn}
 use Rattle.order.specs.Orders.{bitDeps}
@@ -80,7 +80,7 @@ left-between x x′ ws ws′ l = record {
   same = l .changes .same;
 }
 
-pub between-frame : (x x′ : Extent) (ws ws′ : List ℕ) → Between x x′ ws ws′ → Within 0 13312 ws ws′
+pub between-frame : (x x′ : Extent) (ws ws′ : List ℕ) → Between x x′ ws ws′ → Within 0 keysFrom ws ws′
 between-frame x x′ ws ws′ b = record { before = λ i h. absurd (omega arith); after = b .after; same = b .same }
 
 -- after a step a slot may be finished that could be before
@@ -152,7 +152,7 @@ module _ (x : Extent) (ws ws₁ : List ℕ) (c : Cell) (a : Added) (p : Adds x w
   pub bit-full : (s : ℕ) → a ≡ added.Full → RunsBit x s ws ws₁ c step.Full
   bit-full s e =
       let y : rewriting.Added = addCell findNewCell (rewriterIn x ws) c in
-      let k : (1024 < slotsAdded y) × Within 0 13312 ws ws₁ = subst (λ (b : Added). AnswersAdd x ws ws₁ b y) e added-said in
+      let k : (1024 < slotsAdded y) × Within 0 keysFrom ws ws₁ = subst (λ (b : Added). AnswersAdd x ws ws₁ b y) e added-said in
       record { said = (omega (arith, k .0, slots-bit s y), k .1) }
 
 -- an and-inverter
@@ -333,7 +333,7 @@ rolling-none x k ws g = record {
 
 module _ (x₀ : Extent) (k : ℕ) (ws₀ ws : List ℕ) (x : Extent) (j : ℕ) (g : Rolling x₀ k ws₀ ws x j) where
   abbrev item : ℕ
-  item = getD ws₀ (5120 + j) 0
+  item = getD ws₀ (orderAt + j) 0
 
   abbrev done : List ℕ
   done = wordsIn orderAt j ws₀
@@ -371,9 +371,9 @@ module _ (x₀ : Extent) (k : ℕ) (ws₀ ws : List ℕ) (x : Extent) (j : ℕ) 
         let cs : List Cell = g .ready .ticket in
         fed-at (length cs) (bitDeps cs) [] done item (cut .0) (subst (FedAfter (length cs) (bitDeps cs) []) (cut .1) (g .ready .fed))
 
-    module _ (s : ℕ) (s-is : s ≡ getD ws (5120 + j) 0) where
+    module _ (s : ℕ) (s-is : s ≡ getD ws (orderAt + j) 0) where
       is-item : s ≡ item
-      is-item = let f : k ≤ 1024 = g .ready .few in s-is ∙ g .went .left .between (5120 + j) (omega arith) (omega arith)
+      is-item = let f : k ≤ 1024 = g .ready .few in s-is ∙ g .went .left .between (orderAt + j) (omega arith) (omega arith)
 
       pub rolling-ready : ReadyItem x s ws
       rolling-ready = subst (λ (i : ℕ). ReadyItem x i ws) (sym is-item) (record {
@@ -421,7 +421,7 @@ module _ (x₀ : Extent) (k : ℕ) (ws₀ ws : List ℕ) (x : Extent) (j : ℕ) 
 
         pub rolling-full : y ≡ step.Full → RunsItems x₀ k ws₀ ws′ step.Full
         rolling-full e =
-            let q : (1024 < slotsOf (runItem findNewCell item (rewriterIn x ws))) × Within 0 13312 ws ws′ = item-said step.Full e in
+            let q : (1024 < slotsOf (runItem findNewCell item (rewriterIn x ws))) × Within 0 keysFrom ws ws′ = item-said step.Full e in
             record {
               said = (
                 subst (λ (z : Run). 1024 < slotsOf z) (sym whole)

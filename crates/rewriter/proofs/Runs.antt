@@ -14,7 +14,7 @@ use Rattle.cell.specs.Tabulate.{tabulate}
 use Rattle.checking.specs.declared.Verdict.the-variants.{Pass}
 use Rattle.checking.specs.Refusals.{firstOf}
 use Rattle.checking.specs.Checking.{netlistStages}
-use Rattle.netlist.specs.Areas.{wordRecord, recordsIn, wordsIn, orderAt, Within}
+use Rattle.netlist.specs.Areas.{wordRecord, recordsIn, wordsIn, orderAt, Within, figuresAt, keysFrom, mixesAt, replacedAt, visitedAt}
 use Rattle.netlist.specs.Netlist.{Netlist, netlistOf}
 use Rattle.netlist.proofs.Frames.{within-then, within-wider, tabulate-same, words-kept, record-kept}
 use Rattle.order.specs.Orders.{bitDeps, topoSort}
@@ -48,30 +48,30 @@ netlist-of : (d : Netlist) (cs : List Cell) (bits : List ℕ) → d .cells ≡ c
 netlist-of d cs bits p q = λ i. record { cells = p i; bits = q i }
 
 -- the words after sorting, and with nothing replaced and nothing stamped
-module _ (n : ℕ) (ws₀ ws₁ ws₂ ws₃ : List ℕ) (count : ℕ) (sorted : Sorts n ws₀ ws₁ count) (blank : ClearsStamps n ws₂ ws₃) (kept : Within 6144 7168 ws₁ ws₂)
+module _ (n : ℕ) (ws₀ ws₁ ws₂ ws₃ : List ℕ) (count : ℕ) (sorted : Sorts n ws₀ ws₁ count) (blank : ClearsStamps n ws₂ ws₃) (kept : Within replacedAt figuresAt ws₁ ws₂)
     (fresh : replacedIn n ws₂ ≡ tabulate netIn n) (few : n ≤ 512) where
   abbrev cells₀ : List Cell
   cells₀ = netlistIn n ws₀ .cells
 
   record-same : (i : ℕ) → i < 1024 → wordRecord ws₃ i ≡ wordRecord ws₀ i
   record-same i h =
-      record-kept 7168 8192 ws₂ ws₃ (blank .frame) i (inl (omega arith)) ∙ record-kept 6144 7168 ws₁ ws₂ kept i (inl (omega arith))
-      ∙ record-kept 4096 6144 ws₀ ws₁ (sorted .frame) i (inl (omega arith))
+      record-kept figuresAt mixesAt ws₂ ws₃ (blank .frame) i (inl (omega arith)) ∙ record-kept replacedAt figuresAt ws₁ ws₂ kept i (inl (omega arith))
+      ∙ record-kept visitedAt replacedAt ws₀ ws₁ (sorted .frame) i (inl (omega arith))
 
   records-same : recordsIn n ws₃ ≡ recordsIn n ws₀
   unfolding recordsIn
   records-same = tabulate-same (wordRecord ws₃) (wordRecord ws₀) n (λ i l. record-same i (omega arith))
 
-  stamps-are : wordsIn 7168 n ws₃ ≡ replicate (length cells₀) 0
+  stamps-are : wordsIn figuresAt n ws₃ ≡ replicate (length cells₀) 0
   unfolding wordsIn
   stamps-are =
-      tabulate-same (λ i. getD ws₃ (7168 + i) 0) (λ i. 0) n (λ i l. blank .zeros i l) ∙ tabulate-replicate n 0
+      tabulate-same (λ i. getD ws₃ (figuresAt + i) 0) (λ i. 0) n (λ i l. blank .zeros i l) ∙ tabulate-replicate n 0
       ∙ ap (λ (k : ℕ). replicate k 0) (sym (cells-length n ws₀))
 
   replaced-are : replacedIn n ws₃ ≡ tabulate netIn (length cells₀)
   unfolding replacedIn
   replaced-are =
-      tabulate-same _ _ n (λ i l. ap (λ (w : ℕ). record { 0 = w }) (blank .frame .before (6144 + i) (omega arith))) ∙ fresh
+      tabulate-same _ _ n (λ i l. ap (λ (w : ℕ). record { 0 = w }) (blank .frame .before (replacedAt + i) (omega arith))) ∙ fresh
       ∙ ap (tabulate netIn) (sym (cells-length n ws₀))
 
   begun-is : rewriterIn (first n) ws₃ ≡ begun cells₀
@@ -87,7 +87,7 @@ module _ (n : ℕ) (ws₀ ws₁ ws₂ ws₃ : List ℕ) (count : ℕ) (sorted : 
   unfolding netlistOf
   order-is =
       let all : count ≡ n = sorted .all in
-      words-kept 7168 8192 ws₂ ws₃ (blank .frame) 5120 count (inl (omega arith)) ∙ words-kept 6144 7168 ws₁ ws₂ kept 5120 count (inl (omega arith))
+      words-kept figuresAt mixesAt ws₂ ws₃ (blank .frame) orderAt count (inl (omega arith)) ∙ words-kept replacedAt figuresAt ws₁ ws₂ kept orderAt count (inl (omega arith))
       ∙ sorted .order
 
   pub run-begins : Begins n ws₀ ws₃ count
@@ -96,9 +96,9 @@ module _ (n : ℕ) (ws₀ ws₁ ws₂ ws₃ : List ℕ) (count : ℕ) (sorted : 
     order = order-is;
     state = begun-is;
     bits = λ i l. ap (λ (r : Record). r .bit) (record-same i (omega arith));
-    frame = within-then 0 13312 ws₀ ws₁ ws₃ (within-wider 4096 6144 0 13312 ws₀ ws₁ (omega arith) (omega arith) (sorted .frame))
-        (within-then 0 13312 ws₁ ws₂ ws₃ (within-wider 6144 7168 0 13312 ws₁ ws₂ (omega arith) (omega arith) kept)
-        (within-wider 7168 8192 0 13312 ws₂ ws₃ (omega arith) (omega arith) (blank .frame)));
+    frame = within-then 0 keysFrom ws₀ ws₁ ws₃ (within-wider visitedAt replacedAt 0 keysFrom ws₀ ws₁ (omega arith) (omega arith) (sorted .frame))
+        (within-then 0 keysFrom ws₁ ws₂ ws₃ (within-wider replacedAt figuresAt 0 keysFrom ws₁ ws₂ (omega arith) (omega arith) kept)
+        (within-wider figuresAt mixesAt 0 keysFrom ws₂ ws₃ (omega arith) (omega arith) (blank .frame)));
   }
 
 -- an accepted ticket, begun
@@ -161,7 +161,7 @@ module _ (n : ℕ) (ws₀ ws₃ : List ℕ) (count : ℕ) (b : Begins n ws₀ ws
     pub run-full : y ≡ step.Full → Rewrites n ws₀ ws₄ rewritten.Full
     run-full e =
         let k = run-said step.Full e in
-        (subst (λ (z : Run). 1024 < slotsOf z) (sym run-is) (k .0), within-then 0 13312 ws₀ ws₃ ws₄ (b .frame) (k .1))
+        (subst (λ (z : Run). 1024 < slotsOf z) (sym run-is) (k .0), within-then 0 keysFrom ws₀ ws₃ ws₄ (b .frame) (k .1))
 
     module _ (x : Extent) (e : y ≡ step.On x) where
       went : Went count (first n) x ws₃ ws₄ (runItems findNewCell (wordsIn orderAt count ws₃) (rewriterIn (first n) ws₃))
@@ -206,6 +206,6 @@ module _ (n : ℕ) (ws₀ ws₃ : List ℕ) (count : ℕ) (b : Begins n ws₀ ws
         taken = ap slotsOf run-ran ∙ taken-is;
         fit = went .left .held .fit;
         result = ap compact (netlist-of (netlistIn (x .slots) ws₅) _ _ (a .cells) (a .bits ∙ bits-are)) ∙ sym (ap (compacted (netlistIn n ws₀ .bits)) run-ran);
-        frame = within-then 0 13312 ws₀ ws₃ ws₅ (b .frame)
-            (within-then 0 13312 ws₃ ws₄ ws₅ (between-frame (first n) x ws₃ ws₄ (went .left)) (within-wider 0 7168 0 13312 ws₄ ws₅ (omega arith) (omega arith) (a .frame)));
+        frame = within-then 0 keysFrom ws₀ ws₃ ws₅ (b .frame)
+            (within-then 0 keysFrom ws₃ ws₄ ws₅ (between-frame (first n) x ws₃ ws₄ (went .left)) (within-wider 0 figuresAt 0 keysFrom ws₄ ws₅ (omega arith) (omega arith) (a .frame)));
       }

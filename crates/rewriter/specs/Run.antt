@@ -5,7 +5,7 @@ use mathlib.Core.List.{List, []}
 use Prim.Native.Nat.{ℕ, _+_, _≤_, _<_}
 use lib.ListN.{length, getD}
 use Rattle.cell.specs.declared.Cell.{Cell}
-use Rattle.netlist.specs.Areas.{wordRecord, wordsIn, orderAt, replacedAt, Within}
+use Rattle.netlist.specs.Areas.{wordRecord, wordsIn, orderAt, replacedAt, Within, keysFrom, visitedAt}
 use Rattle.netlist.specs.Shape.{visit}
 use Rattle.netlist.specs.Netlist.{cellIn}
 use Rattle.order.specs.Orders.{bitDeps, topoSort}
@@ -31,8 +31,8 @@ pub record Between (x x′ : Extent) (ws ws′ : List ℕ) : Type 0 where
   pub tickets : x′ .tickets ≡ x .tickets
   pub slots : x .slots ≤ x′ .slots
   pub bits : (i : ℕ) → i < x .tickets → wordRecord ws′ i .bit ≡ wordRecord ws i .bit
-  pub between : (i : ℕ) → 4096 ≤ i → i < replacedAt → getD ws′ i 0 ≡ getD ws i 0
-  pub after : (i : ℕ) → 13312 ≤ i → getD ws′ i 0 ≡ getD ws i 0
+  pub between : (i : ℕ) → visitedAt ≤ i → i < replacedAt → getD ws′ i 0 ≡ getD ws i 0
+  pub after : (i : ℕ) → keysFrom ≤ i → getD ws′ i 0 ≡ getD ws i 0
   pub same : length ws′ ≡ length ws
 
 -- the definition's run goes on, or takes more slots than there are. At most one stamp is given for a ticket's slot
@@ -43,7 +43,7 @@ pub record Went (k : ℕ) (x x′ : Extent) (ws ws′ : List ℕ) (y : Run) : Ty
 
 abbrev pub Goes : ℕ → Extent → List ℕ → List ℕ → Run → Step → Type 0
 Goes k x ws ws′ y (step.On x′) = Went k x x′ ws ws′ y
-Goes k x ws ws′ y step.Full = (1024 < slotsOf y) × Within 0 13312 ws ws′
+Goes k x ws ws′ y step.Full = (1024 < slotsOf y) × Within 0 keysFrom ws ws′
 
 -- what is asked: of a slot with its mapped cell; of an item, which comes after what it depends on; and of the first k items of the order,
 -- before which nothing was done, with room for a stamp each
@@ -94,7 +94,7 @@ pub record Begins (n : ℕ) (ws ws′ : List ℕ) (r : ℕ) : Type 0 where
   pub order : wordsIn orderAt r ws′ ≡ topoSort (netlistIn n ws .cells)
   pub state : rewriterIn (first n) ws′ ≡ begun (netlistIn n ws .cells)
   pub bits : (i : ℕ) → i < n → wordRecord ws′ i .bit ≡ wordRecord ws i .bit
-  pub frame : Within 0 13312 ws ws′
+  pub frame : Within 0 keysFrom ws ws′
 
 -- the changes are applied
 pub record AppliesAll (x : Extent) (ws ws′ : List ℕ) : Type 0 where
@@ -107,8 +107,8 @@ pub record RewritesTo (n m : ℕ) (ws ws′ : List ℕ) : Type 0 where
   pub taken : slotsOf (run findNewCell (netlistIn n ws .cells)) ≡ m
   pub fit : m ≤ 1024
   pub result : compact (netlistIn m ws′) ≡ rewrite findNewCell (netlistIn n ws)
-  pub frame : Within 0 13312 ws ws′
+  pub frame : Within 0 keysFrom ws ws′
 
 abbrev pub Rewrites : ℕ → List ℕ → List ℕ → Rewritten → Type 0
 Rewrites n ws ws′ (rewritten.To m) = RewritesTo n m ws ws′
-Rewrites n ws ws′ rewritten.Full = (1024 < slotsOf (run findNewCell (netlistIn n ws .cells))) × Within 0 13312 ws ws′
+Rewrites n ws ws′ rewritten.Full = (1024 < slotsOf (run findNewCell (netlistIn n ws .cells))) × Within 0 keysFrom ws ws′

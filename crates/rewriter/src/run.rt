@@ -2,6 +2,7 @@
 use crate::Rewritten;
 use crate::Step;
 use cell::Cell;
+use netlist::area;
 use rewriter_cycle::Processed;
 use rewriter_state::Added;
 use rewriter_state::Extent;
@@ -19,8 +20,6 @@ ghost use Rattle.checking.specs.Checking.{netlistStages};
 ghost use Rattle.rewriter_state.specs.Words.{rewriterIn};
 ghost use Rattle.rewriter_cycle.specs.Cycle.{Running};
 ghost use Rattle.rewriter.specs.Run.{ReadyCell, ReadyItem, ReadyItems, RunsBit, RunsCell, RunsItem, RunsItems, AppliesAll, Begins, Rewrites};
-
-const ORDER: usize = 5120;
 
 fn is_splittable(c: Cell) -> bool
     ensures { λ r. ⌜ r ≡ isSplittable c ⌝ }
@@ -93,7 +92,7 @@ fn run_items(work: &mut [u32], begun: Extent, count: u32) -> Step
     let mut x = begun;
     let mut j: u32 = 0;
     while j < count {
-        let s = cell::word(work, ORDER + (j as usize));
+        let s = cell::word(work, area::ORDER + (j as usize));
         match run_item(work, x, Slot(s)) {
             Step::On(y) => x = y,
             Step::Full => return Step::Full,

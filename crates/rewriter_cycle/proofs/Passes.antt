@@ -11,7 +11,7 @@ use Rattle.value.specs.declared.ControlNet.the-variants.{Pos, Neg}
 use Rattle.value.specs.Value.{UNDEF, ZERO, ONE}
 use Rattle.cell.specs.declared.Cell.{Cell}
 use Rattle.cell.specs.declared.Cell.the-variants.{Input, Output, Buf, Not, And, Or, Mux, Aig}
-use Rattle.netlist.specs.Areas.{Within}
+use Rattle.netlist.specs.Areas.{Within, keysFrom}
 use Rattle.netlist.proofs.Frames.{within-then}
 use Rattle.design.specs.declared.Found.{Found}
 use Rattle.design.specs.declared.Found.the-variants as found
@@ -70,7 +70,7 @@ left-on x y z ws ws′ ws″ a b = record {
   };
 }
 
-pub left-within : (x y : Extent) (ws ws′ : List ℕ) → Left x y ws ws′ → Within 0 13312 ws ws′
+pub left-within : (x y : Extent) (ws ws′ : List ℕ) → Left x y ws ws′ → Within 0 keysFrom ws ws′
 left-within x y ws ws′ l = record { before = λ i h. absurd (omega arith); after = l .changes .after; same = l .changes .same }
 
 -- the slots that an answer has taken
@@ -109,7 +109,7 @@ answers-on : (x y : Extent) (ws ws′ ws″ : List ℕ) → Left x y ws ws′ �
 answers-on x y ws ws′ ws″ l (processed.None x′) z h = (h .0, left-on x y x′ ws ws′ ws″ l (h .1))
 answers-on x y ws ws′ ws″ l (processed.Cell c x′) z h = (h .0, left-on x y x′ ws ws′ ws″ l (h .1))
 answers-on x y ws ws′ ws″ l (processed.Value n x′) z h = (h .0, left-on x y x′ ws ws′ ws″ l (h .1))
-answers-on x y ws ws′ ws″ l processed.Full z h = (h .0, within-then 0 13312 ws ws′ ws″ (left-within x y ws ws′ l) (h .1))
+answers-on x y ws ws′ ws″ l processed.Full z h = (h .0, within-then 0 keysFrom ws ws′ ws″ (left-within x y ws ws′ l) (h .1))
 
 -- the cache was asked
 found-answers : (x y : Extent) (ws ws′ : List ℕ) (f : Found) → Left x y ws ws′ → Answers x ws ws′ (foundOf y f) (rewriting.asked (rewriterIn y ws′) f)
@@ -264,7 +264,7 @@ module _ (x : Extent) (ws ws′ : List ℕ) (c : Cell) (p : Processed) (s : Proc
   entry-answers ws″ y d added.Full z l h e =
       let m : slotsAdded z ≡ y .slots + 1 =
       ap slotsAdded e ∙ entered-slots (rewriterIn y ws′) d (netIn (slotsOf (rewriterIn y ws′))) ∙ ap (λ k. k + 1) (held-slots y ws′) in
-      (omega (arith, h .0, m), within-then 0 13312 ws ws′ ws″ (left-within x y ws ws′ l) (h .1))
+      (omega (arith, h .0, m), within-then 0 keysFrom ws ws′ ws″ (left-within x y ws ws′ l) (h .1))
 
   pub add-none : (ws″ : List ℕ) (y : Extent) (a : Added) → p ≡ processed.None y → Enters y ws′ ws″ c a → Adds x ws ws″ c a
   add-none ws″ y a e h = record {

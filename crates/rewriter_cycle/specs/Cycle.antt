@@ -7,7 +7,7 @@ use lib.ListN.{length}
 use Rattle.value.specs.declared.Net.{Net}
 use Rattle.cell.specs.declared.Cell.{Cell}
 use Rattle.cell.specs.declared.Cell.the-variants.{Not}
-use Rattle.netlist.specs.Areas.{Within}
+use Rattle.netlist.specs.Areas.{Within, keysFrom}
 use Rattle.normalize.specs.declared.Outcome.{Outcome}
 use Rattle.normalize.specs.declared.Outcome.the-variants.{None, Value, Form, Add, NotOf, AddNotOf}
 use Rattle.design.specs.declared.Found.{Found}
@@ -97,11 +97,11 @@ abbrev pub Answers : Extent → List ℕ → List ℕ → Processed → rewritin
 Answers x ws ws′ (processed.None x′) y = (y ≡ rewriting.none (rewriterIn x′ ws′)) × Left x x′ ws ws′
 Answers x ws ws′ (processed.Cell c x′) y = (y ≡ rewriting.cell c (rewriterIn x′ ws′)) × Left x x′ ws ws′
 Answers x ws ws′ (processed.Value n x′) y = (y ≡ rewriting.value n (rewriterIn x′ ws′)) × Left x x′ ws ws′
-Answers x ws ws′ processed.Full y = (1024 < slotsAfter y) × Within 0 13312 ws ws′
+Answers x ws ws′ processed.Full y = (1024 < slotsAfter y) × Within 0 keysFrom ws ws′
 
 abbrev pub AnswersAdd : Extent → List ℕ → List ℕ → Added → rewriting.Added → Type 0
 AnswersAdd x ws ws′ (added.At n x′) y = (y ≡ rewriting.at n (rewriterIn x′ ws′)) × Left x x′ ws ws′
-AnswersAdd x ws ws′ added.Full y = (1024 < slotsAdded y) × Within 0 13312 ws ws′
+AnswersAdd x ws ws′ added.Full y = (1024 < slotsAdded y) × Within 0 keysFrom ws ws′
 
 -- the state of a run over the cells of a ticket, after some of its items; each member of the cycle asks for it, and for settled operands
 pub record Running (x : Extent) (ws : List ℕ) : Type 0 where

@@ -17,7 +17,7 @@ use Rattle.cell.specs.declared.Cell.{Cell}
 use Rattle.cell.specs.declared.Cell.the-variants.{Input}
 use Rattle.cell.specs.Records.{cellOf}
 use Rattle.cell.proofs.Lists.{tabulate-length, tabulate-at}
-use Rattle.netlist.specs.Areas.{wordRecord, wordsIn}
+use Rattle.netlist.specs.Areas.{wordRecord, wordsIn, figuresAt}
 use Rattle.design.specs.declared.Source.{Source}
 use Rattle.design.specs.declared.Source.the-variants.{Opaque, Known}
 use Rattle.design.specs.Queue.{sourceIn, mapNetNew, findNewCell}
@@ -30,24 +30,24 @@ use Rattle.rewriter_state.specs.Words.{rewriterIn}
 -- the stamp of a net
 module _ (m : ℕ) (ws : List ℕ) (n : Net) (d : Driver) (d-is : d ≡ driver n) where
   abbrev stamps : List ℕ
-  stamps = wordsIn 7168 m ws
+  stamps = wordsIn figuresAt m ws
 
-  pub stamp-const : (t : Trit) → d ≡ driven.Const t → 0 ≡ stamp (wordsIn 7168 m ws) n
+  pub stamp-const : (t : Trit) → d ≡ driven.Const t → 0 ≡ stamp (wordsIn figuresAt m ws) n
   unfolding stamp
   stamp-const t e = sym (ap (stampIn stamps) (sym d-is ∙ e))
 
   module _ (s : Slot) (e : d ≡ driven.Cell s) where
-    of-slot : stamp (wordsIn 7168 m ws) n ≡ getD (wordsIn 7168 m ws) (s .0) 0
+    of-slot : stamp (wordsIn figuresAt m ws) n ≡ getD (wordsIn figuresAt m ws) (s .0) 0
     unfolding stamp
     of-slot = ap (stampIn stamps) (sym d-is ∙ e)
 
-    pub stamp-cell : s .0 < m → (w : ℕ) → w ≡ getD ws (7168 + s .0) 0 → w ≡ stamp (wordsIn 7168 m ws) n
+    pub stamp-cell : s .0 < m → (w : ℕ) → w ≡ getD ws (figuresAt + s .0) 0 → w ≡ stamp (wordsIn figuresAt m ws) n
     unfolding wordsIn
-    stamp-cell h w f = f ∙ sym (of-slot ∙ tabulate-at (λ i. getD ws (7168 + i) 0) m 0 (s .0) h)
+    stamp-cell h w f = f ∙ sym (of-slot ∙ tabulate-at (λ i. getD ws (figuresAt + i) 0) m 0 (s .0) h)
 
-    pub stamp-past : m ≤ s .0 → 0 ≡ stamp (wordsIn 7168 m ws) n
+    pub stamp-past : m ≤ s .0 → 0 ≡ stamp (wordsIn figuresAt m ws) n
     unfolding wordsIn
-    stamp-past h = sym (of-slot ∙ List·getD-eq-default stamps 0 (omega (arith, tabulate-length (λ i. getD ws (7168 + i) 0) m)))
+    stamp-past h = sym (of-slot ∙ List·getD-eq-default stamps 0 (omega (arith, tabulate-length (λ i. getD ws (figuresAt + i) 0) m)))
 
 -- the cell of a net
 module _ (x : Extent) (ws : List ℕ) (n y : Net) (y-is : y ≡ mapNetNew (replacedIn (x .tickets) ws) n) (d : Driver) (d-is : d ≡ driver y) where
@@ -70,7 +70,7 @@ module _ (x : Extent) (ws : List ℕ) (n y : Net) (y-is : y ≡ mapNetNew (repla
         ap Known (sym (List·getD-eq-default cells (Input 0) (omega (arith, cells-length (x .slots) ws)))) ∙ by-driver (driven.Cell s) e
 
 -- none where the net has no stamp
-module _ (x : Extent) (ws : List ℕ) (n : Net) (t : ℕ) (t-is : t ≡ stamp (wordsIn 7168 (x .slots) ws) n) where
+module _ (x : Extent) (ws : List ℕ) (n : Net) (t : ℕ) (t-is : t ≡ stamp (wordsIn figuresAt (x .slots) ws) n) where
   by-test : (b : Bool) → eqb t 0 ≡ b → cond b Opaque (findNewCell (rewriterIn x ws .design) n) ≡ findCell findNewCell (rewriterIn x ws) n
   unfolding findCell rewriterIn
   by-test b e = rw (← e, t-is)

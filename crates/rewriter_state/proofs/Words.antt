@@ -19,7 +19,7 @@ use Rattle.cell.specs.Records.{cellOf, cellRecord}
 use Rattle.cell.specs.Tabulate.{tabulate}
 use Rattle.cell.proofs.RoundTrips.{cell-back}
 use Rattle.value.specs.Value.{netAt}
-use Rattle.netlist.specs.Areas.{wordRecord, storeWords, recordsIn, wordsIn, Within}
+use Rattle.netlist.specs.Areas.{wordRecord, storeWords, recordsIn, wordsIn, Within, figuresAt, keysFrom, mixesAt, replacedAt, visitedAt}
 use Rattle.netlist.specs.Netlist.{netlistOf}
 use Rattle.netlist.proofs.Frames.{within-then, within-wider, within-set, tabulate-same, record-kept, words-kept}
 use Rattle.netlist.proofs.Areas.{Sized, store-within, stored-other, stored-same}
@@ -64,32 +64,32 @@ module _ (n : ℕ) (ws ws′ : List ℕ) where
       ∙ rw (add-one n, tabulate-same after before n (λ i l. ap cellOf (there i l)), here) (ap (λ (cs : List Cell). cs ++ (c ∷ [])) (sym (cells-table n ws)))
 
 -- the replaced nets
-replaced-same : (n : ℕ) (ws ws′ : List ℕ) → ((i : ℕ) → i < n → getD ws′ (6144 + i) 0 ≡ getD ws (6144 + i) 0) → replacedIn n ws′ ≡ replacedIn n ws
+replaced-same : (n : ℕ) (ws ws′ : List ℕ) → ((i : ℕ) → i < n → getD ws′ (replacedAt + i) 0 ≡ getD ws (replacedAt + i) 0) → replacedIn n ws′ ≡ replacedIn n ws
 unfolding replacedIn
-replaced-same n ws ws′ h = tabulate-same (λ i. netAt (getD ws′ (6144 + i) 0)) (λ i. netAt (getD ws (6144 + i) 0)) n (λ i l. ap netAt (h i l))
+replaced-same n ws ws′ h = tabulate-same (λ i. netAt (getD ws′ (replacedAt + i) 0)) (λ i. netAt (getD ws (replacedAt + i) 0)) n (λ i l. ap netAt (h i l))
 
 -- a stamp is given
-module _ (ws ws′ : List ℕ) (s v : ℕ) (put : ws′ ≡ set ws (7168 + s) v) (small : s < 1024) where
-  stamp-within : Within 7168 8192 ws ws′
-  stamp-within = rw put (within-set 7168 8192 ws (7168 + s) v (omega arith) (omega arith))
+module _ (ws ws′ : List ℕ) (s v : ℕ) (put : ws′ ≡ set ws (figuresAt + s) v) (small : s < 1024) where
+  stamp-within : Within figuresAt mixesAt ws ws′
+  stamp-within = rw put (within-set figuresAt mixesAt ws (figuresAt + s) v (omega arith) (omega arith))
 
-  stamp-here : 16384 ≤ length ws → getD ws′ (7168 + s) 0 ≡ v
-  stamp-here long = rw put (getD-set-same ws (7168 + s) v 0 (omega arith))
+  stamp-here : 16384 ≤ length ws → getD ws′ (figuresAt + s) 0 ≡ v
+  stamp-here long = rw put (getD-set-same ws (figuresAt + s) v 0 (omega arith))
 
-  stamp-there : (i : ℕ) → (i ≡ s → ⊥) → getD ws′ (7168 + i) 0 ≡ getD ws (7168 + i) 0
-  stamp-there i h = rw put (getD-set-other ws (7168 + s) (7168 + i) v 0 (λ q. h (omega arith)))
+  stamp-there : (i : ℕ) → (i ≡ s → ⊥) → getD ws′ (figuresAt + i) 0 ≡ getD ws (figuresAt + i) 0
+  stamp-there i h = rw put (getD-set-other ws (figuresAt + s) (figuresAt + i) v 0 (λ q. h (omega arith)))
 
-  stamps-set : (m : ℕ) → s < m → 16384 ≤ length ws → wordsIn 7168 m ws′ ≡ set (wordsIn 7168 m ws) s v
+  stamps-set : (m : ℕ) → s < m → 16384 ≤ length ws → wordsIn figuresAt m ws′ ≡ set (wordsIn figuresAt m ws) s v
   unfolding wordsIn
   stamps-set m l long =
-      tabulate-set 0 (λ i. getD ws (7168 + i) 0) (λ i. getD ws′ (7168 + i) 0) m s v l (stamp-here long) stamp-there
+      tabulate-set 0 (λ i. getD ws (figuresAt + i) 0) (λ i. getD ws′ (figuresAt + i) 0) m s v l (stamp-here long) stamp-there
 
-  stamps-more : 16384 ≤ length ws → wordsIn 7168 (s + 1) ws′ ≡ wordsIn 7168 s ws ++ (v ∷ [])
+  stamps-more : 16384 ≤ length ws → wordsIn figuresAt (s + 1) ws′ ≡ wordsIn figuresAt s ws ++ (v ∷ [])
   unfolding wordsIn tabulate
   stamps-more long =
       rw (
         add-one s,
-        tabulate-same (λ i. getD ws′ (7168 + i) 0) (λ i. getD ws (7168 + i) 0) s (λ i l. stamp-there i (λ e. absurd (omega arith))),
+        tabulate-same (λ i. getD ws′ (figuresAt + i) 0) (λ i. getD ws (figuresAt + i) 0) s (λ i l. stamp-there i (λ e. absurd (omega arith))),
         stamp-here long,
       )
 
@@ -108,19 +108,19 @@ slot-small x s ws g = omega (arith, g .small, g .held .few)
 
 -- a slot is finished after a change of the replaced nets or the cache, with k entries then
 module _ (x : Extent) (k : ℕ) (ws ws₁ ws₂ : List ℕ) (s : ℕ) (g : ReadySlot x s ws) (most : k ≤ x .entries + 1) (en : Entered k ws₁) (mx : Mixed k ws₁)
-    (records : (i : ℕ) → i < 1024 → wordRecord ws₁ i ≡ wordRecord ws i) (stamps : wordsIn 7168 (x .slots) ws₁ ≡ wordsIn 7168 (x .slots) ws)
-    (frame : Within 6144 13312 ws ws₁) (put : ws₂ ≡ set ws₁ (7168 + s) (x .clock + 1)) where
+    (records : (i : ℕ) → i < 1024 → wordRecord ws₁ i ≡ wordRecord ws i) (stamps : wordsIn figuresAt (x .slots) ws₁ ≡ wordsIn figuresAt (x .slots) ws)
+    (frame : Within replacedAt keysFrom ws ws₁) (put : ws₂ ≡ set ws₁ (figuresAt + s) (x .clock + 1)) where
   abbrev then : Extent
   then = record { tickets = x .tickets; slots = x .slots; entries = k; clock = x .clock + 1 }
 
-  stamped : Within 7168 8192 ws₁ ws₂
+  stamped : Within figuresAt mixesAt ws₁ ws₂
   stamped = stamp-within ws₁ ws₂ s (x .clock + 1) put (slot-small x s ws g)
 
   records-after : (i : ℕ) → i < 1024 → wordRecord ws₂ i ≡ wordRecord ws i
-  records-after i l = record-kept 7168 8192 ws₁ ws₂ stamped i (inl (omega arith)) ∙ records i l
+  records-after i l = record-kept figuresAt mixesAt ws₁ ws₂ stamped i (inl (omega arith)) ∙ records i l
 
-  whole : Within 6144 13312 ws ws₂
-  whole = within-then 6144 13312 ws ws₁ ws₂ frame (within-wider 7168 8192 6144 13312 ws₁ ws₂ (omega arith) (omega arith) stamped)
+  whole : Within replacedAt keysFrom ws ws₂
+  whole = within-then replacedAt keysFrom ws ws₁ ws₂ frame (within-wider figuresAt mixesAt replacedAt keysFrom ws₁ ws₂ (omega arith) (omega arith) stamped)
 
   finish-held : Held then ws₂
   finish-held =
@@ -132,8 +132,8 @@ module _ (x : Extent) (k : ℕ) (ws ws₁ ws₂ : List ℕ) (s : ℕ) (g : Ready
         fit = g .held .fit;
         timed = omega (arith, g .room);
         cached = omega (arith, most, g .held .cached);
-        entries = entered-stays 7168 8192 ws₁ ws₂ stamped k (inl (omega arith)) en;
-        mixed = mixed-stays 7168 8192 ws₁ ws₂ stamped k (inl (omega arith)) mx;
+        entries = entered-stays figuresAt mixesAt ws₁ ws₂ stamped k (inl (omega arith)) en;
+        mixed = mixed-stays figuresAt mixesAt ws₁ ws₂ stamped k (inl (omega arith)) mx;
         single = λ i l m. ap (λ (r : Record). r .bit) (records-after i (omega arith)) ∙ g .held .single i l m;
       }
 
@@ -145,8 +145,8 @@ module _ (x : Extent) (k : ℕ) (ws ws₁ ws₂ : List ℕ) (s : ℕ) (g : Ready
       let few : x .tickets ≤ 512 = g .held .few in
       rw (
         cells-same (x .slots) ws ws₂ (λ i l. records-after i (omega arith)),
-        replaced-same (x .tickets) ws₁ ws₂ (λ i l. stamped .before (6144 + i) (omega arith)),
-        numberer-stays 7168 8192 ws₁ ws₂ stamped k (inl (omega arith)),
+        replaced-same (x .tickets) ws₁ ws₂ (λ i l. stamped .before (replacedAt + i) (omega arith)),
+        numberer-stays figuresAt mixesAt ws₁ ws₂ stamped k (inl (omega arith)),
         stamps-set ws₁ ws₂ s (x .clock + 1) put (slot-small x s ws g) (x .slots) (omega (arith, g .small, g .held .many)) (omega (arith, g .held .long, frame .same)),
         stamps,
         add-one (x .clock),
@@ -167,53 +167,53 @@ module _ (x : Extent) (k : ℕ) (ws ws₁ ws₂ : List ℕ) (s : ℕ) (g : Ready
         same = whole .same;
       }
 
-module _ (x : Extent) (ws ws₁ ws₂ : List ℕ) (s : ℕ) (g : ReadySlot x s ws) (put : ws₂ ≡ set ws₁ (7168 + s) (x .clock + 1)) where
+module _ (x : Extent) (ws ws₁ ws₂ : List ℕ) (s : ℕ) (g : ReadySlot x s ws) (put : ws₂ ≡ set ws₁ (figuresAt + s) (x .clock + 1)) where
   pub stays : (c : Cell) → Inserts (x .entries) s c ws ws₁
       → Finishes s x (record { tickets = x .tickets; slots = x .slots; entries = x .entries + 1; clock = x .clock + 1 }) ws ws₂ (rewriterIn x ws .design)
       (rewriterIn x ws .cache ++ ((c, netIn s) ∷ []))
   unfolding rewriterIn
   stays c r =
-      let w : Within 8192 13312 ws ws₁ = r .frame in
+      let w : Within mixesAt keysFrom ws ws₁ = r .frame in
       let fit : x .slots ≤ 1024 = g .held .fit in
       let few : x .tickets ≤ 512 = g .held .few in
       finish x (x .entries + 1) ws ws₁ ws₂ s g (omega arith) (r .entered (g .held .entries)) (r .mixed (g .held .mixed))
-      (λ i l. record-kept 8192 13312 ws ws₁ w i (inl (omega arith))) (words-kept 8192 13312 ws ws₁ w 7168 (x .slots) (inl (omega arith)))
-      (within-wider 8192 13312 6144 13312 ws ws₁ (omega arith) (omega arith) w) put
+      (λ i l. record-kept mixesAt keysFrom ws ws₁ w i (inl (omega arith))) (words-kept mixesAt keysFrom ws ws₁ w figuresAt (x .slots) (inl (omega arith)))
+      (within-wider mixesAt keysFrom replacedAt keysFrom ws ws₁ (omega arith) (omega arith) w) put
       (rewriterIn x ws .design) (rewriterIn x ws .cache ++ ((c, netIn s) ∷ []))
-      (rw (replaced-same (x .tickets) ws ws₁ (λ i l. w .before (6144 + i) (omega arith)))) (r .said)
+      (rw (replaced-same (x .tickets) ws ws₁ (λ i l. w .before (replacedAt + i) (omega arith)))) (r .said)
 
-  pub replaces : (n : Net) → replacedIn (x .tickets) ws₁ ≡ set (replacedIn (x .tickets) ws) s n → Within 6144 7168 ws ws₁
+  pub replaces : (n : Net) → replacedIn (x .tickets) ws₁ ≡ set (replacedIn (x .tickets) ws) s n → Within replacedAt figuresAt ws ws₁
       → Finishes s x (record { tickets = x .tickets; slots = x .slots; entries = x .entries; clock = x .clock + 1 }) ws ws₂ (replaceNet (rewriterIn x ws .design) s n)
       (rewriterIn x ws .cache)
   unfolding rewriterIn
   replaces n e w =
-      finish x (x .entries) ws ws₁ ws₂ s g (omega arith) (entered-stays 6144 7168 ws ws₁ w (x .entries) (inl (omega arith)) (g .held .entries))
-      (mixed-stays 6144 7168 ws ws₁ w (x .entries) (inl (omega arith)) (g .held .mixed))
-      (λ i l. record-kept 6144 7168 ws ws₁ w i (inl (omega arith))) (words-kept 6144 7168 ws ws₁ w 7168 (x .slots) (inr (omega arith)))
-      (within-wider 6144 7168 6144 13312 ws ws₁ (omega arith) (omega arith) w) put
+      finish x (x .entries) ws ws₁ ws₂ s g (omega arith) (entered-stays replacedAt figuresAt ws ws₁ w (x .entries) (inl (omega arith)) (g .held .entries))
+      (mixed-stays replacedAt figuresAt ws ws₁ w (x .entries) (inl (omega arith)) (g .held .mixed))
+      (λ i l. record-kept replacedAt figuresAt ws ws₁ w i (inl (omega arith))) (words-kept replacedAt figuresAt ws ws₁ w figuresAt (x .slots) (inr (omega arith)))
+      (within-wider replacedAt figuresAt replacedAt keysFrom ws ws₁ (omega arith) (omega arith) w) put
       (replaceNet (rewriterIn x ws .design) s n) (rewriterIn x ws .cache)
-      (rw e) (numberer-stays 6144 7168 ws ws₁ w (x .entries) (inl (omega arith)))
+      (rw e) (numberer-stays replacedAt figuresAt ws ws₁ w (x .entries) (inl (omega arith)))
 
 -- a record is stored in a slot: the cache, the stamps and the replaced nets stay
-module _ (ws ws₁ : List ℕ) (w : Within 0 4096 ws ws₁) (x : Extent) where
+module _ (ws ws₁ : List ℕ) (w : Within 0 visitedAt ws ws₁) (x : Extent) where
   store-entered : Held x ws → Entered (x .entries) ws₁
-  store-entered g = entered-stays 0 4096 ws ws₁ w (x .entries) (inl (omega arith)) (g .entries)
+  store-entered g = entered-stays 0 visitedAt ws ws₁ w (x .entries) (inl (omega arith)) (g .entries)
 
   store-mixed : Held x ws → Mixed (x .entries) ws₁
-  store-mixed g = mixed-stays 0 4096 ws ws₁ w (x .entries) (inl (omega arith)) (g .mixed)
+  store-mixed g = mixed-stays 0 visitedAt ws ws₁ w (x .entries) (inl (omega arith)) (g .mixed)
 
   store-cache : numbererIn (x .entries) ws₁ ≡ numbererIn (x .entries) ws
-  store-cache = numberer-stays 0 4096 ws ws₁ w (x .entries) (inl (omega arith))
+  store-cache = numberer-stays 0 visitedAt ws ws₁ w (x .entries) (inl (omega arith))
 
-  store-stamps : wordsIn 7168 (x .slots) ws₁ ≡ wordsIn 7168 (x .slots) ws
-  store-stamps = words-kept 0 4096 ws ws₁ w 7168 (x .slots) (inr (omega arith))
+  store-stamps : wordsIn figuresAt (x .slots) ws₁ ≡ wordsIn figuresAt (x .slots) ws
+  store-stamps = words-kept 0 visitedAt ws ws₁ w figuresAt (x .slots) (inr (omega arith))
 
   store-replaced : replacedIn (x .tickets) ws₁ ≡ replacedIn (x .tickets) ws
-  store-replaced = replaced-same (x .tickets) ws ws₁ (λ i l. w .after (6144 + i) (omega arith))
+  store-replaced = replaced-same (x .tickets) ws ws₁ (λ i l. w .after (replacedAt + i) (omega arith))
 
 module _ (s : ℕ) (ws ws₁ : List ℕ) (q : Record) (store : ws₁ ≡ storeWords ws s q) where
-  store-frame : s < 1024 → Within 0 4096 ws ws₁
-  store-frame small = rw store (within-wider (s * 4) (s * 4 + 4) 0 4096 ws (storeWords ws s q) (omega arith) (omega arith) (store-within ws s q))
+  store-frame : s < 1024 → Within 0 visitedAt ws ws₁
+  store-frame small = rw store (within-wider (s * 4) (s * 4 + 4) 0 visitedAt ws (storeWords ws s q) (omega arith) (omega arith) (store-within ws s q))
 
   store-other : (i : ℕ) → (i ≡ s → ⊥) → wordRecord ws₁ i ≡ wordRecord ws i
   store-other i h = rw store (stored-other ws s q i h)
@@ -231,7 +231,7 @@ module _ (s : ℕ) (ws ws₁ : List ℕ) (q : Record) (store : ws₁ ≡ storeWo
 
 -- `become_cell`
 module _ (x : Extent) (ws ws₁ : List ℕ) (s : ℕ) (q : Record) (store : ws₁ ≡ storeWords ws s q) (g : ReadySlot x s ws) where
-  become-frame : Within 0 4096 ws ws₁
+  become-frame : Within 0 visitedAt ws ws₁
   become-frame = store-frame s ws ws₁ q store (slot-small x s ws g)
 
   become-held : Held x ws₁
@@ -294,7 +294,7 @@ module _ (x : Extent) (ws ws₁ : List ℕ) (s : ℕ) (q : Record) (store : ws�
 -- `enter`
 module _ (x : Extent) (ws ws₁ ws₂ ws₃ : List ℕ) (c : Cell) (n : Net) (g : Held x ws) (room : x .slots ≡ 1024 → ⊥) (q : Record)
     (store : ws₁ ≡ storeWords ws (x .slots) q) (q-is : q ≡ cellRecord 0 c) (rem : Inserts (x .entries) (x .slots) c ws₁ ws₂)
-    (put : ws₃ ≡ set ws₂ (7168 + x .slots) (x .clock + 1)) (n-is : n ≡ netIn (x .slots)) where
+    (put : ws₃ ≡ set ws₂ (figuresAt + x .slots) (x .clock + 1)) (n-is : n ≡ netIn (x .slots)) where
   below : x .slots < 1024
   below = go (decLt (x .slots) 1024)
     where
@@ -302,22 +302,22 @@ module _ (x : Extent) (ws ws₁ ws₂ ws₃ : List ℕ) (c : Cell) (n : Net) (g 
       go (yes l) = l
       go (no l) = absurd (room (omega (arith, g .fit)))
 
-  first : Within 0 4096 ws ws₁
+  first : Within 0 visitedAt ws ws₁
   first = store-frame (x .slots) ws ws₁ q store below
 
   long₂ : 16384 ≤ length ws₂
   long₂ = omega (arith, g .long, first .same, rem .frame .same)
 
-  last : Within 7168 8192 ws₂ ws₃
+  last : Within figuresAt mixesAt ws₂ ws₃
   last = stamp-within ws₂ ws₃ (x .slots) (x .clock + 1) put below
 
-  rest : Within 7168 13312 ws₁ ws₃
+  rest : Within figuresAt keysFrom ws₁ ws₃
   rest =
-      within-then 7168 13312 ws₁ ws₂ ws₃ (within-wider 8192 13312 7168 13312 ws₁ ws₂ (omega arith) (omega arith) (rem .frame))
-      (within-wider 7168 8192 7168 13312 ws₂ ws₃ (omega arith) (omega arith) last)
+      within-then figuresAt keysFrom ws₁ ws₂ ws₃ (within-wider mixesAt keysFrom figuresAt keysFrom ws₁ ws₂ (omega arith) (omega arith) (rem .frame))
+      (within-wider figuresAt mixesAt figuresAt keysFrom ws₂ ws₃ (omega arith) (omega arith) last)
 
   same-record : (i : ℕ) → i < 1024 → wordRecord ws₃ i ≡ wordRecord ws₁ i
-  same-record i l = record-kept 7168 13312 ws₁ ws₃ rest i (inl (omega arith))
+  same-record i l = record-kept figuresAt keysFrom ws₁ ws₃ rest i (inl (omega arith))
 
   earlier : (i : ℕ) → i < x .slots → wordRecord ws₃ i ≡ wordRecord ws i
   earlier i l =
@@ -345,9 +345,9 @@ module _ (x : Extent) (ws ws₁ ws₂ ws₃ : List ℕ) (c : Cell) (n : Net) (g 
     fit = omega (arith, below);
     timed = omega (arith, g .timed);
     cached = omega (arith, g .cached);
-    entries = entered-stays 7168 8192 ws₂ ws₃ last (x .entries + 1) (inl (omega arith))
+    entries = entered-stays figuresAt mixesAt ws₂ ws₃ last (x .entries + 1) (inl (omega arith))
         (rem .entered (store-entered ws ws₁ first x g));
-    mixed = mixed-stays 7168 8192 ws₂ ws₃ last (x .entries + 1) (inl (omega arith))
+    mixed = mixed-stays figuresAt mixesAt ws₂ ws₃ last (x .entries + 1) (inl (omega arith))
         (rem .mixed (store-mixed ws ws₁ first x g));
     single = enter-single;
   }
@@ -358,14 +358,14 @@ module _ (x : Extent) (ws ws₁ ws₂ ws₃ : List ℕ) (c : Cell) (n : Net) (g 
       rw (
         cells-more (x .slots) ws ws₃ c
             (ap cellOf (same-record (x .slots) below) ∙ store-cell (x .slots) ws ws₁ q store 0 c q-is (g .long) below (omega arith)) earlier,
-        replaced-same (x .tickets) ws₁ ws₃ (λ i l. rest .before (6144 + i) (omega (arith, g .few))),
+        replaced-same (x .tickets) ws₁ ws₃ (λ i l. rest .before (replacedAt + i) (omega (arith, g .few))),
         store-replaced ws ws₁ first x,
-        numberer-stays 7168 8192 ws₂ ws₃ last (x .entries + 1) (inl (omega arith)),
+        numberer-stays figuresAt mixesAt ws₂ ws₃ last (x .entries + 1) (inl (omega arith)),
         rem .said,
         store-cache ws ws₁ first x,
         n-is,
         stamps-more ws₂ ws₃ (x .slots) (x .clock + 1) put below long₂,
-        words-kept 8192 13312 ws₁ ws₂ (rem .frame) 7168 (x .slots) (inl (omega (arith, below))),
+        words-kept mixesAt keysFrom ws₁ ws₂ (rem .frame) figuresAt (x .slots) (inl (omega (arith, below))),
         store-stamps ws ws₁ first x,
         add-one (x .clock),
       )

@@ -6,7 +6,7 @@ use Prim.Native.Nat.{ℕ, _+_, _≤_, _<_}
 use lib.ListN.{length, getD}
 use Rattle.value.specs.declared.Net.{Net}
 use Rattle.cell.specs.declared.Cell.{Cell}
-use Rattle.netlist.specs.Areas.{wordRecord, wordsIn, replacedAt, figuresAt, Within}
+use Rattle.netlist.specs.Areas.{wordRecord, wordsIn, replacedAt, figuresAt, Within, keysFrom, mixesAt, visitedAt}
 use Rattle.design.specs.Queue.{Design, Entry, netIn, replaceCell, replaceNet}
 use Rattle.design.specs.Words.{netlistIn, replacedIn}
 use Rattle.numberer.specs.Words.{numbererIn, Entered, Mixed}
@@ -44,13 +44,13 @@ pub record Held (x : Extent) (ws : List ℕ) : Type 0 where
 -- no slot is stamped
 pub record ClearsStamps (n : ℕ) (ws ws′ : List ℕ) : Type 0 where
   pub zeros : (i : ℕ) → i < n → getD ws′ (stampsAt + i) 0 ≡ 0
-  pub frame : Within stampsAt 8192 ws ws′
+  pub frame : Within stampsAt mixesAt ws ws′
 
 -- from words ws to ws′ none but records, stamps and the cache changed, and no bit number of the ticket's records
 pub record Changes (x : Extent) (ws ws′ : List ℕ) : Type 0 where
   pub bits : (i : ℕ) → i < x .tickets → wordRecord ws′ i .bit ≡ wordRecord ws i .bit
-  pub between : (i : ℕ) → 4096 ≤ i → i < figuresAt → getD ws′ i 0 ≡ getD ws i 0
-  pub after : (i : ℕ) → 13312 ≤ i → getD ws′ i 0 ≡ getD ws i 0
+  pub between : (i : ℕ) → visitedAt ≤ i → i < figuresAt → getD ws′ i 0 ≡ getD ws i 0
+  pub after : (i : ℕ) → keysFrom ≤ i → getD ws′ i 0 ≡ getD ws i 0
   pub same : length ws′ ≡ length ws
 
 -- from one extent to another: the ticket stays, and each cell that was added has an entry and a stamp
@@ -69,7 +69,7 @@ pub record EntersAt (x x′ : Extent) (ws ws′ : List ℕ) (c : Cell) (n : Net)
 
 abbrev pub Enters : Extent → List ℕ → List ℕ → Cell → Added → Type 0
 Enters x ws ws′ c (At n x′) = EntersAt x x′ ws ws′ c n
-Enters x ws ws′ c Full = (x .slots ≡ 1024) × Within 0 13312 ws ws′
+Enters x ws ws′ c Full = (x .slots ≡ 1024) × Within 0 keysFrom ws ws′
 
 -- a slot of the ticket may be finished: there is room for its stamp
 pub record ReadySlot (x : Extent) (s : ℕ) (ws : List ℕ) : Type 0 where
@@ -85,8 +85,8 @@ pub record Finishes (s : ℕ) (x x′ : Extent) (ws ws′ : List ℕ) (d : Desig
   pub slots : x′ .slots ≡ x .slots
   pub clock : x′ .clock ≡ x .clock + 1
   pub bits : (i : ℕ) → i < x .tickets → wordRecord ws′ i .bit ≡ wordRecord ws i .bit
-  pub between : (i : ℕ) → 4096 ≤ i → i < replacedAt → getD ws′ i 0 ≡ getD ws i 0
-  pub after : (i : ℕ) → 13312 ≤ i → getD ws′ i 0 ≡ getD ws i 0
+  pub between : (i : ℕ) → visitedAt ≤ i → i < replacedAt → getD ws′ i 0 ≡ getD ws i 0
+  pub after : (i : ℕ) → keysFrom ≤ i → getD ws′ i 0 ≡ getD ws i 0
   pub same : length ws′ ≡ length ws
 
 -- the three ways: its net is replaced; its cell stays, known by the form c; it has another cell

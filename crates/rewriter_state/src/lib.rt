@@ -3,6 +3,7 @@
 use cell::Cell;
 use design::Found;
 use design::Source;
+use netlist::area;
 use value::Driver;
 use value::Net;
 use value::Slot;
@@ -29,10 +30,6 @@ pub enum Added {
     Full,
 }
 
-const REPLACED: usize = 6144;
-
-const STAMPS: usize = 7168;
-
 // Takes the stamps off the slots.
 pub fn clear_stamps(work: &mut [u32], n: u32)
     requires { ⌜ 16384 ≤ length (now work) ⌝ }
@@ -41,7 +38,7 @@ pub fn clear_stamps(work: &mut [u32], n: u32)
 {
     let mut s: u32 = 0;
     while s < n {
-        cell::put(work, STAMPS + (s as usize), 0);
+        cell::put(work, area::FIGURES + (s as usize), 0);
         s += 1;
     }
 }
@@ -54,7 +51,7 @@ fn stamp_of(work: &[u32], x: Extent, n: Net) -> u32
         Driver::Const(_) => 0,
         Driver::Cell(s) => {
             if s.0 < x.slots {
-                return cell::word(work, STAMPS + (s.0 as usize));
+                return cell::word(work, area::FIGURES + (s.0 as usize));
             }
             0
         }
@@ -115,7 +112,7 @@ pub fn enter(work: &mut [u32], x: Extent, c: Cell) -> Added
     let s = Slot(x.slots);
     netlist::put_record(work, s, cell::cell_record(0, c));
     remember(work, x, s, c);
-    cell::put(work, STAMPS + (x.slots as usize), x.clock + 1);
+    cell::put(work, area::FIGURES + (x.slots as usize), x.clock + 1);
     let y = Extent {
         tickets: x.tickets,
         slots: x.slots + 1,
@@ -131,7 +128,7 @@ pub fn replace(work: &mut [u32], x: Extent, s: Slot, n: Net) -> Extent
     ensures { λ y. ⌜ Replaces (s .0) x y (now (work .entry)) (now (work .exit)) n ⌝ }
 {
     design::queue::replace_net(work, x.tickets, s, n);
-    cell::put(work, STAMPS + (s.0 as usize), x.clock + 1);
+    cell::put(work, area::FIGURES + (s.0 as usize), x.clock + 1);
     Extent {
         tickets: x.tickets,
         slots: x.slots,
@@ -146,7 +143,7 @@ pub fn stay(work: &mut [u32], x: Extent, s: Slot, c: Cell) -> Extent
     ensures { λ y. ⌜ Stays (s .0) x y (now (work .entry)) (now (work .exit)) c ⌝ }
 {
     remember(work, x, s, c);
-    cell::put(work, STAMPS + (s.0 as usize), x.clock + 1);
+    cell::put(work, area::FIGURES + (s.0 as usize), x.clock + 1);
     Extent {
         tickets: x.tickets,
         slots: x.slots,
@@ -173,7 +170,7 @@ pub fn stand(work: &mut [u32], x: Extent)
     let mut s = x.tickets;
     while s < x.slots {
         let own = Net::from_cell_index(Slot(s));
-        cell::put(work, REPLACED + (s as usize), own.0);
+        cell::put(work, area::REPLACED + (s as usize), own.0);
         s += 1;
     }
 }
