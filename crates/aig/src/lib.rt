@@ -1,4 +1,12 @@
-// `SimpleAigOpt`, after generic/src/rewrite/aig.rs: a rule is a plan over what the look-up of the operands gave.
+// `SimpleAigOpt`, after generic/src/rewrite/aig.rs: a rule is a plan over what the look-up of the operands gave. Its rules by family, with the
+// crate that has their code; each test there names its arm as docs/ARMS.md does:
+// - constants: an inverter or xor of a constant, and of a cell with a constant (aig, xor_gate, and_inverter)
+// - inverters: two in a row vanish; one before an and-inverter goes into its sign, one before a xor behind it (aig, and_inverter, xor_gate)
+// - idempotence and contradiction: an operand that comes again, or comes inverted, also inside an and that is read (and_inverter, aig_arms)
+// - subsumption, substitution: an and that is read inverted follows from the other operand, or is cut by it (aig_arms)
+// - resolution: two inverted ands that differ in one sign (aig_arms)
+// - xor: two inverted ands that are one; an operand of a xor that comes again (aig_arms, xor_gate)
+// - and, or: split into and-inverter and inverter (rewriter_cycle: `rewrite_and`, `rewrite_or`)
 use design::Source;
 use normalize::Outcome;
 use value::ControlNet;
@@ -25,6 +33,7 @@ pub enum XorGate {
     Other,
 }
 
+// not-not: ~~v -> v
 fn not_of_not(src: Source) -> Outcome
     ensures { λ r. ⌜ r ≡ ifNot src (λ v. Value v) ⌝ }
 {
@@ -38,6 +47,7 @@ fn not_of_not(src: Source) -> Outcome
 pub fn not_rule(src: Source, n: Net) -> Outcome
     ensures { λ r. ⌜ r ≡ notRule src n ⌝ }
 {
+    // not-zero, not-one, not-undef
     if value::net_eq(n, Net::ZERO) {
         return Outcome::Value(Net::ONE);
     }

@@ -12,13 +12,15 @@ ghost use Rattle.value.specs.Value.{isPositive};
 ghost use Rattle.normalize.specs.Outcomes.{given, eitherWay};
 ghost use Rattle.aig.specs.Aig.{ifAig, andAnd, andWith};
 
-// (aa & ab) & (ba & bb): idempotence, contradiction
+// (aa & ab) & (ba & bb)
 fn and_and(a: ControlNet, aa: ControlNet, ba: ControlNet, bb: ControlNet) -> Outcome
     ensures { λ r. ⌜ r ≡ andAnd a aa ba bb ⌝ }
 {
+    // idempotence, and-and-shared: (aa & ab) & (aa & bb) -> (aa & ab) & bb
     if value::control_eq(aa, ba) {
         return Outcome::Form(Cell::Aig(a, bb));
     }
+    // contradiction, and-and-opposed: (aa & ab) & (~aa & bb) -> 0
     if opposite(aa, ba) {
         return Outcome::Value(Net::ZERO);
     }
@@ -49,13 +51,15 @@ fn and_with_and(src_b: Source, a: ControlNet, b: ControlNet, aa: ControlNet) -> 
     }
 }
 
-// (aa & ab) & b: idempotence, contradiction
+// (aa & ab) & b
 fn and_with(src_b: Source, a: ControlNet, b: ControlNet, aa: ControlNet) -> Outcome
     ensures { λ r. ⌜ r ≡ andWith «src_b» a b aa ⌝ }
 {
+    // idempotence, and-and-same: (aa & ab) & aa -> aa & ab
     if value::control_eq(aa, b) {
         return normalize::from_control(a);
     }
+    // contradiction, and-and-complement: (aa & ab) & ~aa -> 0
     if opposite(aa, b) {
         return Outcome::Value(Net::ZERO);
     }

@@ -14,13 +14,15 @@ ghost use Rattle.normalize.specs.declared.Outcome.the-variants.{Form, NotOf};
 ghost use Rattle.normalize.specs.Outcomes.{_orElse_, given, eitherWay, fromControl};
 ghost use Rattle.aig.specs.Aig.{ifAig, nandAnd, xorOf, nandNand, nandWith};
 
-// ~(aa & ab) & (ba & bb): substitution, subsumption
+// ~(aa & ab) & (ba & bb)
 fn nand_and(b: ControlNet, aa: ControlNet, ab: ControlNet, ba: ControlNet) -> Outcome
     ensures { λ r. ⌜ r ≡ nandAnd b aa ab ba ⌝ }
 {
+    // substitution, nand-and-substitute: ~(aa & ab) & (aa & bb) -> ~ab & (aa & bb)
     if value::control_eq(aa, ba) {
         return Outcome::Form(Cell::Aig(ab.not(), b));
     }
+    // subsumption, nand-and-subsume: ~(aa & ab) & (~aa & bb) -> ~aa & bb
     if opposite(aa, ba) {
         return normalize::from_control(b);
     }
@@ -61,7 +63,7 @@ fn inverse_if(inverted: bool, c: Cell) -> Outcome
     }
 }
 
-// aa ^ ab of the nets, inverted if one of them is negative
+// aa ^ ab of the nets, inverted if one of them is negative: xor-found, xor-found-inverted
 fn xor_of(aa: ControlNet, ab: ControlNet) -> Outcome
     ensures { λ r. ⌜ r ≡ xorOf aa ab ⌝ }
 {
@@ -69,16 +71,18 @@ fn xor_of(aa: ControlNet, ab: ControlNet) -> Outcome
     inverse_if(inverted, Cell::Xor(aa.net(), ab.net()))
 }
 
-// ~(aa & ab) & ~(ba & bb): resolution, XOR recognition
+// ~(aa & ab) & ~(ba & bb)
 fn nand_nand(aa: ControlNet, ab: ControlNet, ba: ControlNet, bb: ControlNet) -> Outcome
     ensures { λ r. ⌜ r ≡ nandNand aa ab ba bb ⌝ }
 {
     if !opposite(aa, ba) {
         return Outcome::None;
     }
+    // resolution, nand-resolve: ~(aa & ab) & ~(~aa & ab) -> ~ab
     if value::control_eq(ab, bb) {
         return inverse(ab);
     }
+    // recognition of xor: ~(aa & ab) & ~(~aa & ~ab) -> aa ^ ab
     if opposite(ab, bb) {
         return xor_of(aa, ab);
     }
@@ -120,13 +124,15 @@ fn nand_with_aig(src_b: Source, b: ControlNet, aa: ControlNet, ab: ControlNet) -
     }
 }
 
-// ~(aa & ab) & b: substitution, subsumption
+// ~(aa & ab) & b
 fn nand_with(src_b: Source, b: ControlNet, aa: ControlNet, ab: ControlNet) -> Outcome
     ensures { λ r. ⌜ r ≡ nandWith «src_b» b aa ab ⌝ }
 {
+    // substitution, nand-substitute: ~(aa & ab) & aa -> ~ab & aa
     if value::control_eq(aa, b) {
         return Outcome::Form(Cell::Aig(ab.not(), b));
     }
+    // subsumption, nand-subsume: ~(aa & ab) & ~aa -> ~aa
     if opposite(aa, b) {
         return normalize::from_control(b);
     }

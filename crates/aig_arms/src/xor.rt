@@ -12,7 +12,8 @@ ghost use Rattle.value.specs.Value.{isPositive};
 ghost use Rattle.normalize.specs.Outcomes.{given, eitherWay};
 ghost use Rattle.aig.specs.Aig.{ifAig, xorAnd, xorWith};
 
-// (aa ^ ab) & b, with b or an operand of b on aa: substitution
+// (aa ^ ab) & b, with b or an operand of b on aa: substitution, xor-substitute and xor-and-substitute. (aa ^ ab) & aa -> ~ab & aa, and
+// (aa ^ ab) & (aa & bb) -> ~ab & (aa & bb); a sign on either side turns that of ab.
 fn xor_and(a: ControlNet, b: ControlNet, aa: Net, ab: Net, on: ControlNet) -> Outcome
     ensures { λ r. ⌜ r ≡ xorAnd a b aa ab on ⌝ }
 {

@@ -13,14 +13,14 @@ ghost use Rattle.normalize.specs.declared.Outcome.the-variants.{Form};
 ghost use Rattle.normalize.specs.Outcomes.{_orElse_, given, eitherWay};
 ghost use Rattle.aig.specs.Aig.{aigOfNot, andWith, aigOfAnd, nandWith, aigOfNand, aigOfXor, aigOrder, aigRule};
 
-// a & ~a, a & 0
+// contradiction, and-contradiction: a & ~a -> 0, a & 0 -> 0
 fn contradicts(a: ControlNet, b: ControlNet) -> bool
     ensures { λ r. ⌜ r ≡ (eqControl a (notControl b) || isAlways b false) ⌝ }
 {
     logic::either(aig_arms::opposite(a, b), b.is_always(false))
 }
 
-// Merges an inverter of v into the and-inverter.
+// and-not: an inverter of v goes into the sign.
 fn merged(v: Net, a: ControlNet, b: ControlNet) -> Outcome
     ensures { λ r. ⌜ r ≡ Form (Aig (fromNetInvert v (not (isNegative a))) b) ⌝ }
 {
@@ -66,12 +66,14 @@ fn aig_of_gate(src_a: Source, src_b: Source, a: ControlNet, b: ControlNet) -> Ou
 fn aig_order(src_a: Source, src_b: Source, a: ControlNet, b: ControlNet) -> Outcome
     ensures { λ r. ⌜ r ≡ aigOrder «src_a» «src_b» a b ⌝ }
 {
+    // idempotence, and-same: a & a -> a
     if value::control_eq(a, b) {
         return normalize::from_control(a);
     }
     if contradicts(a, b) {
         return Outcome::Value(Net::ZERO);
     }
+    // identity, and-one: a & 1 -> a
     if b.is_always(true) {
         return normalize::from_control(a);
     }

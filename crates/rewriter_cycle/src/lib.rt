@@ -62,7 +62,7 @@ fn rewrite_not(work: &[u32], x: Extent, a: Net) -> Processed
     unadded(x, aig::not_rule(rewriter_state::find_cell(work, x, a), a))
 }
 
-// `Cell::And`
+// `Cell::And`, and-split: a & b
 fn rewrite_and(work: &mut [u32], x: Extent, a: Net, b: Net) -> Processed
     requires { ⌜ Ready x (now work) (And a b) ⌝ }
     ensures { λ p. ⌜ Performs x (now (work .entry)) (now (work .exit)) (opted x (now (work .entry)) (And a b)) p ⌝ }
@@ -73,7 +73,7 @@ fn rewrite_and(work: &mut [u32], x: Extent, a: Net, b: Net) -> Processed
     }
 }
 
-// `Cell::Or`
+// `Cell::Or`, or-split: ~(~a & ~b)
 fn rewrite_or(work: &mut [u32], x: Extent, a: Net, b: Net) -> Processed
     requires { ⌜ Ready x (now work) (Or a b) ⌝ }
     ensures { λ p. ⌜ Performs x (now (work .entry)) (now (work .exit)) (opted x (now (work .entry)) (Or a b)) p ⌝ }

@@ -18,9 +18,11 @@ ghost use Rattle.aig.specs.Aig.{ifNot, ifAig, ifXor, andXor, xorXor, xorOrder, 
 fn and_xor(b: Net, aa: ControlNet, ab: ControlNet) -> Outcome
     ensures { λ r. ⌜ r ≡ andXor b aa ab ⌝ }
 {
+    // xor-and: (aa & ab) ^ aa -> aa & ~ab
     if value::control_eq(aa, ControlNet::Pos(b)) {
         return Outcome::Form(Cell::Aig(aa, ab.not()));
     }
+    // xor-and-inverted: (aa & ab) ^ ~aa -> ~(aa & ~ab)
     if value::control_eq(aa, ControlNet::Neg(b)) {
         return Outcome::NotOf(Cell::Aig(aa, ab.not()));
     }
@@ -37,7 +39,7 @@ fn and_xor_either(b: Net, a1: ControlNet, a2: ControlNet) -> Outcome
     and_xor(b, a2, a1)
 }
 
-// (aa ^ ab) ^ (ba ^ bb), with aa common
+// xor-xor-shared: (aa ^ ab) ^ (aa ^ bb) -> ab ^ bb
 fn common(aa: Net, ab: Net, ba: Net, bb: Net) -> Outcome
     ensures { λ r. ⌜ r ≡ given (eqNet aa ba) (Form (Xor ab bb)) ⌝ }
 {
@@ -70,6 +72,7 @@ fn xor_with_xor(src_b: Source, aa: Net, ab: Net) -> Outcome
 fn xor_xor(src_b: Source, b: Net, aa: Net, ab: Net) -> Outcome
     ensures { λ r. ⌜ r ≡ xorXor «src_b» b aa ab ⌝ }
 {
+    // xor-xor: (aa ^ ab) ^ aa -> ab
     if value::net_eq(aa, b) {
         return Outcome::Value(ab);
     }
@@ -86,7 +89,7 @@ fn xor_xor_either(src_b: Source, b: Net, a1: Net, a2: Net) -> Outcome
     xor_xor(src_b, b, a2, a1)
 }
 
-// By the kind of the cell that a is of; an inverter goes behind the xor.
+// By the kind of the cell that a is of. xor-not: ~v ^ b -> ~(v ^ b).
 fn xor_of_gate(src_a: Source, src_b: Source, b: Net) -> Outcome
     ensures { λ r. ⌜ r ≡ (ifNot «src_a» (λ v. NotOf (Xor v b)) orElse ifAig «src_a» (eitherWay (andXor b)) orElse ifXor «src_a» (eitherWay (xorXor «src_b» b))) ⌝ }
 {
@@ -109,15 +112,19 @@ fn xor_of_gate(src_a: Source, src_b: Source, b: Net) -> Outcome
 fn xor_order(src_a: Source, src_b: Source, a: Net, b: Net) -> Outcome
     ensures { λ r. ⌜ r ≡ xorOrder «src_a» «src_b» a b ⌝ }
 {
+    // xor-same: a ^ a -> 0
     if value::net_eq(a, b) {
         return Outcome::Value(Net::ZERO);
     }
+    // xor-undef: a ^ X -> X
     if value::net_eq(b, Net::UNDEF) {
         return Outcome::Value(Net::UNDEF);
     }
+    // xor-zero: a ^ 0 -> a
     if value::net_eq(b, Net::ZERO) {
         return Outcome::Value(a);
     }
+    // xor-one: a ^ 1 -> ~a
     if value::net_eq(b, Net::ONE) {
         return Outcome::Form(Cell::Not(a));
     }
