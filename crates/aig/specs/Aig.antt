@@ -95,11 +95,12 @@ nandAnd b aa ab ba =
     -- subsumption: ~(aa & ab) & (~aa & bb) -> (~aa & bb)
     orElse given (eqControl aa (notControl ba)) (fromControl b)
 
--- ~(aa & ab) & ~(ba & bb)
+-- aa ^ ab of the nets, inverted if exactly one of them is negative
 unfoldable pub xorOf : ControlNet → ControlNet → Outcome
 xorOf aa ab =
     cond (differ (isNegative aa) (isNegative ab)) (NotOf (Xor (net aa) (net ab))) (Form (Xor (net aa) (net ab)))
 
+-- ~(aa & ab) & ~(ba & bb)
 unfoldable pub nandNand : ControlNet → ControlNet → ControlNet → ControlNet → Outcome
 nandNand aa ab ba bb =
     -- resolution: ~(aa & ab) & ~(~aa & ab) -> ~ab

@@ -1,11 +1,11 @@
 // `SimpleAigOpt`, after generic/src/rewrite/aig.rs: a rule is a plan over what the look-up of the operands gave. Its rules by family, with the
 // crate that has their code; each test there names its arm as docs/ARMS.md does:
-// - constants: an inverter or xor of a constant, and of a cell with a constant (aig, xor_gate, and_inverter)
+// - constants: an inverter of a constant; a xor or an and with a constant (aig, xor_gate, and_inverter)
 // - inverters: two in a row vanish; one before an and-inverter goes into its sign, one before a xor behind it (aig, and_inverter, xor_gate)
 // - idempotence and contradiction: an operand that comes again, or comes inverted, also inside an and that is read (and_inverter, aig_arms)
-// - subsumption, substitution: an and that is read inverted follows from the other operand, or is cut by it (aig_arms)
+// - subsumption, substitution: an and that is read inverted follows from the other operand, or is cut by it; so is a xor that is read (aig_arms)
 // - resolution: two inverted ands that differ in one sign (aig_arms)
-// - xor: two inverted ands that are one; an operand of a xor that comes again (aig_arms, xor_gate)
+// - xor: two inverted ands that make one (aig_arms); a xor with an operand of the and, or of the xor, that it reads (xor_gate)
 // - and, or: split into and-inverter and inverter (rewriter_cycle: `rewrite_and`, `rewrite_or`)
 use design::Source;
 use normalize::Outcome;

@@ -63,7 +63,7 @@ fn inverse_if(inverted: bool, c: Cell) -> Outcome
     }
 }
 
-// aa ^ ab of the nets, inverted if one of them is negative: xor-found, xor-found-inverted
+// aa ^ ab of the nets, inverted if exactly one of them is negative
 fn xor_of(aa: ControlNet, ab: ControlNet) -> Outcome
     ensures { λ r. ⌜ r ≡ xorOf aa ab ⌝ }
 {
@@ -82,7 +82,7 @@ fn nand_nand(aa: ControlNet, ab: ControlNet, ba: ControlNet, bb: ControlNet) -> 
     if value::control_eq(ab, bb) {
         return inverse(ab);
     }
-    // recognition of xor: ~(aa & ab) & ~(~aa & ~ab) -> aa ^ ab
+    // recognition of xor, xor-found and xor-found-inverted: ~(aa & ab) & ~(~aa & ~ab) -> aa ^ ab
     if opposite(ab, bb) {
         return xor_of(aa, ab);
     }

@@ -1,4 +1,5 @@
--- The arms of the rules: what each outcome is, and the tests that led there. A fact about the rules is proved arm by arm. Assumes nothing.
+-- The arms of the rules: what each outcome is, and the tests that led there. A fact about the rules is proved arm by arm. The names are by the
+-- definition's tests, not those of docs/ARMS.md; `definite_arms/specs/Taken.antt` (`aigName`, `xorName`) pairs the two. Assumes nothing.
 use mathlib.Core.Path.{_≡_, refl}
 use mathlib.Core.Bool.{true, false, not, _&&_, _||_}
 use Rattle.value.specs.declared.Net.{Net}

@@ -1,5 +1,5 @@
 // `Cell::Aig` of `SimpleAigOpt`. a and b are its operands, aa and ab those of the cell that a is of, ba and bb those of the cell that b is of.
-// Rules are asked for in the order of the definition, and the first that applies decides; `.._either` asks in both orders of two operands.
+// Rules are asked for in the order of the definition, and the first that applies decides. The arms are in `aig_arms`.
 use cell::Cell;
 use design::Source;
 use normalize::Outcome;

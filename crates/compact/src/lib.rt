@@ -1,4 +1,4 @@
-// `Design::compact`: inputs, outputs and the cells that they reach, slot after slot, under new numbers.
+// `Design::compact`, after its `apply`: inputs, outputs and the cells that they reach, slot after slot, under new numbers.
 use cell::Record;
 use design::visit;
 use netlist::area;
@@ -128,7 +128,7 @@ fn count_kept(work: &[u32], n: u32, x: Slot, s: Slot, at: u32) -> u32
     count_from(work, n, m, from, logic::pick32(near, at, 0))
 }
 
-// The net of a record that slot s reads, under its new number; that of slot s is `at`.
+// A net that the record of slot s reads, under its new number; that of slot s is `at`.
 fn net_map(work: &[u32], n: u32, x: Net, s: Slot, at: u32) -> Net
     requires { ⌜ Numbered n (s .0) at (now work) ⌝ }
     ensures { λ r. ⌜ r ≡ renumberedIn n (now (work .entry)) x ⌝ }

@@ -29,7 +29,7 @@ use Rattle.order.specs.Orders.{iterCellsTopo}
 use Rattle.design.specs.declared.Found.{Found}
 use Rattle.design.specs.declared.Found.the-variants.{Nothing, At}
 use Rattle.design.specs.Queue.{Entry, unchanged, netIn, drivenTo, mapNetNew, seek}
-use Rattle.merge.specs.Merge.{keyOf, Merging, numbered, findOrInsert, mergeCell, mergeCells, merging}
+use Rattle.merge.specs.Merge.{keyOf, Merging, findOrInsert, findOrInsertAll, mergeCell, mergeCells, merging}
 use Rattle.calls.specs.Calls.{decoded, checkVerdict}
 use Rattle.order_laws.specs.Ordered.{has, OnceAfter}
 use Rattle.order_laws.specs.Members.{All}
@@ -122,7 +122,7 @@ module _ (d : Netlist) (rank : ℕ → ℕ) (sound : Sound d rank) where
       go (driven.Const t) e = itself (ap (drivenTo rs n) e)
       go (driven.Cell x) e = slot x e (decLt (x .0) total)
 
-  -- a slot that waits is numbered: it is replaced by a net that the numberer has, or enters its own
+  -- a slot that waits is findOrInsert: it is replaced by a net that the numberer has, or enters its own
   module _ (done : List ℕ) (s : ℕ) (small : s < total) (new : has s done ≡ false) where
     abbrev now-done : List ℕ
     now-done = done ++ (s ∷ [])
@@ -148,7 +148,7 @@ module _ (d : Netlist) (rank : ℕ → ℕ) (sound : Sound d rank) where
       own = λ x. getD-set-other rs s (r .slot) n x (not-s (r .slot) (r .before)) ∙ r .own x;
     }
 
-    replaced-chains : (m : Merging) (key : Cell) (n : Net) → Chains done m → Root done (m .design .replaced) n → Chains now-done (numbered m key s (At n))
+    replaced-chains : (m : Merging) (key : Cell) (n : Net) → Chains done m → Root done (m .design .replaced) n → Chains now-done (findOrInsert m key s (At n))
     replaced-chains m key n c r =
         let rs : List Net = m .design .replaced in
         record {
@@ -168,7 +168,7 @@ module _ (d : Netlist) (rank : ℕ → ℕ) (sound : Sound d rank) where
         by i x (inl f) = inl f
         by i x (inr r) = inr (root-set (m .design .replaced) n (getD (m .design .replaced) i x) r)
 
-    entered-chains : (m : Merging) (key : Cell) → Chains done m → Chains now-done (numbered m key s Nothing)
+    entered-chains : (m : Merging) (key : Cell) → Chains done m → Chains now-done (findOrInsert m key s Nothing)
     unfolding All
     entered-chains m key c =
         let rs : List Net = m .design .replaced in
@@ -186,18 +186,18 @@ module _ (d : Netlist) (rank : ℕ → ℕ) (sound : Sound d rank) where
         by i x (inl f) = inl f
         by i x (inr r) = inr (root-later (m .design .replaced) (getD (m .design .replaced) i x) r)
 
-    pub numbered-chains : (m : Merging) (key : Cell) (f : Found) → seek (m .numberer) key ≡ f → Chains done m → Chains now-done (numbered m key s f)
+    pub numbered-chains : (m : Merging) (key : Cell) (f : Found) → seek (m .numberer) key ≡ f → Chains done m → Chains now-done (findOrInsert m key s f)
     numbered-chains m key (At n) e c =
         replaced-chains m key n c (seek-finds (λ k y. Root done (m .design .replaced) y) (m .numberer) key n (c .known) e)
     numbered-chains m key Nothing e c = entered-chains m key c
 
   findOrInsert-chains : (key : ℕ → Cell) (is done : List ℕ) (m : Merging) → All (λ i. i < total) is → OnceAfter done is → Chains done m
-      → Chains (done ++ is) (findOrInsert m (map (λ i. (key i, i)) is))
-  unfolding findOrInsert OnceAfter All
+      → Chains (done ++ is) (findOrInsertAll m (map (λ i. (key i, i)) is))
+  unfolding findOrInsertAll OnceAfter All
   findOrInsert-chains key [] done m l o c = subst (λ (l : List ℕ). Chains l m) (sym (append-nil done)) c
   findOrInsert-chains key (i ∷ is) done m l o c =
-      let m′ : Merging = numbered m (key i) i (seek (m .numberer) (key i)) in
-      subst (λ (l : List ℕ). Chains l (findOrInsert m′ (map (λ i. (key i, i)) is))) (append-assoc done (i ∷ []) is)
+      let m′ : Merging = findOrInsert m (key i) i (seek (m .numberer) (key i)) in
+      subst (λ (l : List ℕ). Chains l (findOrInsertAll m′ (map (λ i. (key i, i)) is))) (append-assoc done (i ∷ []) is)
       (findOrInsert-chains key is (done ++ (i ∷ [])) m′ (l .1) (o .1) (numbered-chains done i (l .0) (o .0) m (key i) (seek (m .numberer) (key i)) refl c))
 
   -- the cells that are merged: the slots done are theirs

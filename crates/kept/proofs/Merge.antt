@@ -22,7 +22,7 @@ use Rattle.order.specs.Orders.{iterCellsTopo}
 use Rattle.design.specs.declared.Found.{Found}
 use Rattle.design.specs.declared.Found.the-variants.{Nothing, At}
 use Rattle.design.specs.Queue.{Entry, unchanged, netIn, drivenTo, mapNetNew, seek}
-use Rattle.merge.specs.Merge.{keyOf, Merging, numbered, findOrInsert, mergeCell, mergeCells, merging}
+use Rattle.merge.specs.Merge.{keyOf, Merging, findOrInsert, findOrInsertAll, mergeCell, mergeCells, merging}
 use Rattle.order_laws.specs.Members.{All, Wired}
 use Rattle.order_laws.proofs.Truth.{either}
 use Rattle.order_laws.proofs.Members.{all-imp, all-map, all-append, those-pass}
@@ -124,7 +124,7 @@ module _ (d : Netlist) (rank : ℕ → ℕ) (sound : Sound d rank) where
       tt,
     )
 
-    numbered-sane : (m : Merging) (key : Cell) (s : ℕ) (f : Found) → Keyed (key, s) → Sane m → seek (m .numberer) key ≡ f → Sane (numbered m key s f)
+    numbered-sane : (m : Merging) (key : Cell) (s : ℕ) (f : Found) → Keyed (key, s) → Sane m → seek (m .numberer) key ≡ f → Sane (findOrInsert m key s f)
     numbered-sane m key s (At n) k h e =
         let stands : Stands (v s) n =
         (let r : Stands (cellValue alg (netValue alg v) (own s) key) n = seek-finds (λ c m. Known (c, m)) (m .numberer) key n (h .known) e (own s) in
@@ -147,11 +147,11 @@ module _ (d : Netlist) (rank : ℕ → ℕ) (sound : Sound d rank) where
       known = all-append Known (m .numberer) ((key, netIn s) ∷ []) (h .known) (one-known (key, s) k);
     }
 
-    findOrInsert-sane : (bs : List (Cell × ℕ)) (m : Merging) → All Keyed bs → Sane m → Sane (findOrInsert m bs)
-    unfolding All findOrInsert
+    findOrInsert-sane : (bs : List (Cell × ℕ)) (m : Merging) → All Keyed bs → Sane m → Sane (findOrInsertAll m bs)
+    unfolding All findOrInsertAll
     findOrInsert-sane [] m k h = h
     findOrInsert-sane (b ∷ bs) m k h =
-        findOrInsert-sane bs (numbered m (b .0) (b .1) (seek (m .numberer) (b .0))) (k .1) (numbered-sane m (b .0) (b .1) (seek (m .numberer) (b .0)) (k .0) h refl)
+        findOrInsert-sane bs (findOrInsert m (b .0) (b .1) (seek (m .numberer) (b .0))) (k .1) (numbered-sane m (b .0) (b .1) (seek (m .numberer) (b .0)) (k .0) h refl)
 
     -- the bits of a cell that is neither input nor output
     mergeCell-sane : (m : Merging) (s : ℕ) → hasEffects (cellIn (d .cells) s) ≡ false → Sane m → Sane (mergeCell d m s)

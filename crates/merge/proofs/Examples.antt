@@ -13,7 +13,7 @@ use Rattle.order.specs.Walk.{each, down, walk, walkFrom}
 use Rattle.order.specs.Orders.{iterCellsTopo}
 use Rattle.design.specs.Queue.{unchanged, followed, mapNetNew, applied, didChange, eqRecord, eqCell, seek}
 use Rattle.compact.specs.Compact.{keep, keptSlots, countKept, netMap, compact}
-use Rattle.merge.specs.Merge.{keyOf, findOrInsert, mergeCell, mergeCells, merging, merge}
+use Rattle.merge.specs.Merge.{keyOf, findOrInsertAll, mergeCell, mergeCells, merging, merge}
 
 -- the paper's T8: one of two equal inverters is unread and dropped, and the flag is not set
 abbrev T8 : List Record
@@ -40,5 +40,5 @@ pub as-expected : (merge (netlistOf T8) .1 ≡ false)
     ∷ recordOf 4 0 1 3 0 0
     ∷ recordOf 2 0 0 4 9 0
     ∷ recordOf 2 0 0 6 11 0 ∷ [])
-unfolding eqNet leNet driver cellOf cellRecord tabulate visit visitMut hasEffects netlistOf encode those anyOf joined sources outputOf iterCells cellDeps Netlist.run each down walk walkFrom iterCellsTopo unchanged followed mapNetNew applied didChange eqRecord eqCell seek keep keptSlots countKept netMap compact keyOf findOrInsert mergeCell mergeCells merging merge
+unfolding eqNet leNet driver cellOf cellRecord tabulate visit visitMut hasEffects netlistOf encode those anyOf joined sources outputOf iterCells cellDeps Netlist.run each down walk walkFrom iterCellsTopo unchanged followed mapNetNew applied didChange eqRecord eqCell seek keep keptSlots countKept netMap compact keyOf findOrInsertAll mergeCell mergeCells merging merge
 as-expected = (refl, refl, refl, refl)

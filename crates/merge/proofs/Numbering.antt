@@ -22,7 +22,7 @@ use Rattle.design.specs.Words.{netlistIn, replacedIn, designIn}
 use Rattle.numberer.specs.Words.{numbererIn, IsCell, mixOf, Inserts}
 use Rattle.numberer.proofs.Records.{is-cell}
 use Rattle.numberer.proofs.Inserting.{numberer-stays, entered-stays, mixed-stays, inserts}
-use Rattle.merge.specs.Merge.{Merging, keyOf, numbered, findOrInsert, mergeCell}
+use Rattle.merge.specs.Merge.{Merging, keyOf, findOrInsert, findOrInsertAll, mergeCell}
 use Rattle.merge.specs.Words.{mergingIn, keyIn, keyAt, Ready, Keyed, Keys, Numbers, NumbersAll, widthOf, Merges}
 use Rattle.design.proofs.Words.{cell-at}
 use Rattle.design.proofs.Lists.{map-table}
@@ -56,9 +56,9 @@ module _ (ws : List ℕ) (s : ℕ) (keyed : Keyed s (s + 1) ws) (key : Record) (
   key-cell = ap cellOf key-is
 
   module _ (n k : ℕ) (g : Ready n k ws) (v : Found) (v-is : v ≡ seek (numbererIn k ws) (cellOf key)) where
-    numbered-by : (d : Found) → v ≡ d → numbered (mergingIn n k ws) (keyAt ws s) s (seek (numbererIn k ws) (keyAt ws s)) ≡ numbered (mergingIn n k ws) (keyAt ws s) s d
+    numbered-by : (d : Found) → v ≡ d → findOrInsert (mergingIn n k ws) (keyAt ws s) s (seek (numbererIn k ws) (keyAt ws s)) ≡ findOrInsert (mergingIn n k ws) (keyAt ws s) s d
     numbered-by d e =
-        ap (numbered (mergingIn n k ws) (keyAt ws s) s) (ap (seek (numbererIn k ws)) (sym key-cell) ∙ sym v-is ∙ e)
+        ap (findOrInsert (mergingIn n k ws) (keyAt ws s) s) (ap (seek (numbererIn k ws)) (sym key-cell) ∙ sym v-is ∙ e)
 
     pub numbers-found : (x : Net) → v ≡ At x → (ws′ : List ℕ) → replacedIn n ws′ ≡ set (replacedIn n ws) s x → Within replacedAt figuresAt ws ws′ → Numbers n k s ws ws′ k
     unfolding mergingIn designIn
@@ -93,10 +93,10 @@ module _ (ws : List ℕ) (s : ℕ) (keyed : Keyed s (s + 1) ws) (key : Record) (
 
 -- the loop of `find_or_insert_all`: one key after another
 abbrev step : Merging → Cell → ℕ → Merging
-step m c s = numbered m c s (seek (m .numberer) c)
+step m c s = findOrInsert m c s (seek (m .numberer) c)
 
-insert-more : (m : Merging) (bs : List (Cell × ℕ)) (c : Cell) (s : ℕ) → findOrInsert m (bs ++ ((c, s) ∷ [])) ≡ step (findOrInsert m bs) c s
-unfolding findOrInsert
+insert-more : (m : Merging) (bs : List (Cell × ℕ)) (c : Cell) (s : ℕ) → findOrInsertAll m (bs ++ ((c, s) ∷ [])) ≡ step (findOrInsertAll m bs) c s
+unfolding findOrInsertAll
 insert-more m [] c s = refl
 insert-more m (b ∷ bs) c s = insert-more (step m (b .0) (b .1)) bs c s
 
@@ -106,13 +106,13 @@ pub record Numbering (n k₀ s e : ℕ) (ws₀ ws : List ℕ) (k i : ℕ) : Type
   pub inside : e ≤ n
   pub room : k₀ + (e - s) ≤ 1024
   pub keyed : Keyed s e ws₀
-  pub said : mergingIn n k ws ≡ findOrInsert (mergingIn n k₀ ws₀) (tabulate (λ j. (keyAt ws₀ (s + j), s + j)) (i - s))
+  pub said : mergingIn n k ws ≡ findOrInsertAll (mergingIn n k₀ ws₀) (tabulate (λ j. (keyAt ws₀ (s + j), s + j)) (i - s))
   pub ready : Ready n k ws
   pub most : k ≤ k₀ + (i - s)
   pub frame : Within replacedAt keysFrom ws₀ ws
 
 pub numbering-none : (n k s e : ℕ) (ws : List ℕ) → Ready n k ws → Keyed s e ws → s ≤ e → e ≤ n → k + (e - s) ≤ 1024 → Numbering n k s e ws ws k s
-unfolding findOrInsert tabulate
+unfolding findOrInsertAll tabulate
 numbering-none n k s e ws g q a b r =
     let z : s - s ≡ 0 = omega arith in
     record {
@@ -166,7 +166,7 @@ module _ (n k₀ s e : ℕ) (ws₀ ws : List ℕ) (k i : ℕ) (g : Numbering n k
   numbering-all h =
       let z : i ≡ e = let u : i ≤ e = g .upto in omega arith in
       record {
-        said = subst (λ (x : ℕ). mergingIn n k ws ≡ findOrInsert (mergingIn n k₀ ws₀) (tabulate (λ j. (keyAt ws₀ (s + j), s + j)) (x - s))) z (g .said);
+        said = subst (λ (x : ℕ). mergingIn n k ws ≡ findOrInsertAll (mergingIn n k₀ ws₀) (tabulate (λ j. (keyAt ws₀ (s + j), s + j)) (x - s))) z (g .said);
         ready = g .ready;
         most = subst (λ (x : ℕ). k ≤ k₀ + (x - s)) z (g .most);
         frame = g .frame;

@@ -36,19 +36,19 @@ pub record Merging : Type 0 where
   pub numberer : List Entry
 
 -- `Numberer::find_or_insert` for the net of a slot, and `replace_value` for that net
-abbrev pub numbered : Merging → Cell → ℕ → Found → Merging
-numbered m key s (At n) = record { design = replaceNet (m .design) s n; numberer = m .numberer }
-numbered m key s Nothing = record { design = m .design; numberer = m .numberer ++ ((key, netIn s) ∷ []) }
+abbrev pub findOrInsert : Merging → Cell → ℕ → Found → Merging
+findOrInsert m key s (At n) = record { design = replaceNet (m .design) s n; numberer = m .numberer }
+findOrInsert m key s Nothing = record { design = m .design; numberer = m .numberer ++ ((key, netIn s) ∷ []) }
 
-unfoldable pub findOrInsert : Merging → List (Cell × ℕ) → Merging
-findOrInsert m [] = m
-findOrInsert m (b ∷ bs) = findOrInsert (numbered m (b .0) (b .1) (seek (m .numberer) (b .0))) bs
+unfoldable pub findOrInsertAll : Merging → List (Cell × ℕ) → Merging
+findOrInsertAll m [] = m
+findOrInsertAll m (b ∷ bs) = findOrInsertAll (findOrInsert m (b .0) (b .1) (seek (m .numberer) (b .0))) bs
 
 -- a cell: the operands of all its bits are mapped first (`map_net`, which is `map_net_new` where no cell was added)
 unfoldable pub mergeCell : Netlist → Merging → ℕ → Merging
 mergeCell d m s =
     let key : ℕ → Cell = λ i. keyOf (visitMut (mapNetNew (m .design .replaced)) (cellIn (d .cells) i)) in
-    findOrInsert m (map (λ i. (key i, i)) (outputOf (d .bits) s))
+    findOrInsertAll m (map (λ i. (key i, i)) (outputOf (d .bits) s))
 
 unfoldable pub mergeCells : Netlist → Merging → List ℕ → Merging
 mergeCells d m [] = m

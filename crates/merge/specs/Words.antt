@@ -17,7 +17,7 @@ use Rattle.netlist.specs.Netlist.{Netlist, cellIn, those, run}
 use Rattle.design.specs.Queue.{mapNetNew, seek}
 use Rattle.design.specs.Words.{netlistIn, replacedIn, designIn}
 use Rattle.numberer.specs.Words.{numbererIn, Entered, Mixed}
-use Rattle.merge.specs.Merge.{Merging, keyOf, numbered, findOrInsert, mergeCell, mergeCells, merging, mergedNetlist, merge}
+use Rattle.merge.specs.Merge.{Merging, keyOf, findOrInsert, findOrInsertAll, mergeCell, mergeCells, merging, mergedNetlist, merge}
 
 -- the bits of a cell are numbered from 0, slot after slot
 pub record Sequenced (bits : List ℕ) : Type 0 where
@@ -60,14 +60,14 @@ pub record Keys (n s e : ℕ) (ws ws′ : List ℕ) : Type 0 where
 
 -- the key in a slot's place is found or entered
 pub record Numbers (n k s : ℕ) (ws ws′ : List ℕ) (r : ℕ) : Type 0 where
-  pub said : mergingIn n r ws′ ≡ numbered (mergingIn n k ws) (keyAt ws s) s (seek (numbererIn k ws) (keyAt ws s))
+  pub said : mergingIn n r ws′ ≡ findOrInsert (mergingIn n k ws) (keyAt ws s) s (seek (numbererIn k ws) (keyAt ws s))
   pub ready : Ready n r ws′
   pub most : r ≤ k + 1
   pub frame : Within replacedAt keysFrom ws ws′
 
 -- so are those of the slots from s up to e
 pub record NumbersAll (n k s e : ℕ) (ws ws′ : List ℕ) (r : ℕ) : Type 0 where
-  pub said : mergingIn n r ws′ ≡ findOrInsert (mergingIn n k ws) (tabulate (λ i. (keyAt ws (s + i), s + i)) (e - s))
+  pub said : mergingIn n r ws′ ≡ findOrInsertAll (mergingIn n k ws) (tabulate (λ i. (keyAt ws (s + i), s + i)) (e - s))
   pub ready : Ready n r ws′
   pub most : r ≤ k + (e - s)
   pub frame : Within replacedAt keysFrom ws ws′

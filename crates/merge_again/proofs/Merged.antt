@@ -20,7 +20,7 @@ use Rattle.order.specs.Orders.{iterCellsTopo}
 use Rattle.design.specs.declared.Found.the-variants.{Nothing}
 use Rattle.design.specs.Queue.{Design, Entry, unchanged, netIn, drivenTo, mapNetNew, applied, didChange, eqCell, seek}
 use Rattle.compact.specs.Compact.{compact}
-use Rattle.merge.specs.Merge.{keyOf, Merging, numbered, findOrInsert, mergeCell, mergeCells, merging, merge}
+use Rattle.merge.specs.Merge.{keyOf, Merging, findOrInsert, findOrInsertAll, mergeCell, mergeCells, merging, merge}
 use Rattle.order_laws.specs.Ordered.{has, OnceAfter}
 use Rattle.order_laws.specs.Members.{All}
 use Rattle.order_laws.proofs.Truth.{either, never}
@@ -105,14 +105,14 @@ module _ (d : Netlist) (rank : ℕ → ℕ) (normal : Normal d rank) where
       (λ q. q)
 
   -- a gate is entered
-  entered : (done : List ℕ) (m : Merging) (s : ℕ) → hasEffects (at s) ≡ false → has s done ≡ false → Idle done m → mergeCell d m s ≡ numbered m (keyOf (at s)) s Nothing
-  unfolding mergeCell findOrInsert
+  entered : (done : List ℕ) (m : Merging) (s : ℕ) → hasEffects (at s) ≡ false → has s done ≡ false → Idle done m → mergeCell d m s ≡ findOrInsert m (keyOf (at s)) s Nothing
+  unfolding mergeCell findOrInsertAll
   entered done m s g n h =
       let key : ℕ → Cell = λ i. keyOf (visitMut (mapNetNew (m .design .replaced)) (at i)) in
-      ap (λ (is : List ℕ). findOrInsert m (map (λ i. (key i, i)) is)) (one-bit d rank (normal .sound) (normal .single) s (gate-inside (d .cells) s g) (gate-parts (at s) g .0))
-      ∙ ap (λ (c : Cell). numbered m c s (seek (m .numberer) c))
+      ap (λ (is : List ℕ). findOrInsertAll m (map (λ i. (key i, i)) is)) (one-bit d rank (normal .sound) (normal .single) s (gate-inside (d .cells) s g) (gate-parts (at s) g .0))
+      ∙ ap (λ (c : Cell). findOrInsert m c s (seek (m .numberer) c))
       (ap keyOf (ap (λ (x : Design). visitMut (mapNetNew (x .replaced)) (at s)) (h .design) ∙ same-cell (d .cells) (at s)))
-      ∙ ap (numbered m (keyOf (at s)) s)
+      ∙ ap (findOrInsert m (keyOf (at s)) s)
       (seek-none (m .numberer) (keyOf (at s)) (all-imp (Seen done) (λ e. eqCell (e .0) (keyOf (at s)) ≡ false) (new-key done s g n) (m .numberer) (h .seen)))
 
   mergeCell-idle : (done : List ℕ) (m : Merging) (s : ℕ) → hasEffects (at s) ≡ false → has s done ≡ false → Idle done m → Idle (done ++ (s ∷ [])) (mergeCell d m s)

@@ -67,6 +67,7 @@ pub fn from_control(c: ControlNet) -> Outcome
     }
 }
 
+// `Normalize`: buf is its operand; and-exchange, or-exchange, xor-exchange and aig-exchange put the operands in order.
 pub fn normalize(c: Cell) -> Outcome
     ensures { λ r. ⌜ r ≡ normalizeOf c ⌝ }
 {

@@ -31,7 +31,7 @@ fn mix(r: Record) -> u32
     r.a % 2048 + 2048 * (r.b % 2048 + 2048 * ((r.kind as u32) % 16 + 16 * rest))
 }
 
-// How many of the first k entries have a mix; what stands behind them is counted too, up to a multiple of 16. Since it does not stop at
+// How many of the first k entries have the mix x; what stands behind them is counted too, up to a multiple of 16. Since it does not stop at
 // the first and has a whole number of rounds, it takes several entries at a time.
 fn count_mix(work: &[u32], k: u32, x: u32) -> u32
     requires { ⌜ 16384 ≤ length (now work) ⌝ }

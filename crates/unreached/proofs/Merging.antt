@@ -11,7 +11,7 @@ use Rattle.netlist.specs.Netlist.{Netlist, cellIn, outputOf}
 use Rattle.design.specs.declared.Found.{Found}
 use Rattle.design.specs.declared.Found.the-variants.{Nothing, At}
 use Rattle.design.specs.Queue.{netIn, mapNetNew, seek}
-use Rattle.merge.specs.Merge.{keyOf, Merging, numbered, mergeCell}
+use Rattle.merge.specs.Merge.{keyOf, Merging, findOrInsert, mergeCell}
 use Rattle.order_laws.specs.Ordered.{OnceAfter}
 use Rattle.order_laws.specs.Members.{All}
 use Rattle.order_laws.proofs.Queue.{seek-finds}
@@ -45,7 +45,7 @@ module _ (d : Netlist) (rank : ℕ → ℕ) (sound : Sound d rank) where
   each-bit key (i ∷ is) done m l o c =
       let f : Found = seek (m .numberer) (key i) in (
         record { there = there done m (key i) i (l .0) c f refl; once = c .waits i (netIn i) (l .0) (o .0) },
-        each-bit key is (done ++ (i ∷ [])) (numbered m (key i) i f) (l .1) (o .1) (numbered-chains d rank sound done i (l .0) (o .0) m (key i) f refl c),
+        each-bit key is (done ++ (i ∷ [])) (findOrInsert m (key i) i f) (l .1) (o .1) (numbered-chains d rank sound done i (l .0) (o .0) m (key i) f refl c),
       )
 
   each-cell : (ss cells : List ℕ) (m : Merging) → OnceAfter cells ss → All (Start d rank sound) ss → Merged d rank sound cells m → EachCell Goes d m ss

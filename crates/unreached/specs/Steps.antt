@@ -11,7 +11,7 @@ use Rattle.netlist.specs.Netlist.{Netlist, cellIn, outputOf}
 use Rattle.design.specs.declared.Found.{Found}
 use Rattle.design.specs.declared.Found.the-variants.{Nothing, At}
 use Rattle.design.specs.Queue.{netIn, mapNetNew, seek}
-use Rattle.merge.specs.Merge.{keyOf, Merging, numbered, mergeCell}
+use Rattle.merge.specs.Merge.{keyOf, Merging, findOrInsert, mergeCell}
 use Rattle.normalize.specs.declared.Outcome.{Outcome}
 use Rattle.normalize.specs.declared.Outcome.the-variants.{None, Value, Form, Add, NotOf, AddNotOf}
 use Rattle.rewrite.specs.Rewriter.{Rewriter, Lookup, weight}
@@ -28,12 +28,12 @@ keyed d m s = map (λ i. (keyOf (visitMut (mapNetNew (m .design .replaced)) (cel
 
 -- T at each bit, with the state before it, its slot and the net found
 module _ (T : Merging → ℕ → Net → Type 0) where
-  -- `findOrInsert`
+  -- `findOrInsertAll`
   unfoldable pub EachBit : Merging → List (Cell × ℕ) → Type 0
   EachBit m [] = Unit {0}
   EachBit m (b ∷ bs) =
       let f = seek (m .numberer) (b .0) in
-      T m (b .1) (canon (b .1) f) × EachBit (numbered m (b .0) (b .1) f) bs
+      T m (b .1) (canon (b .1) f) × EachBit (findOrInsert m (b .0) (b .1) f) bs
 
   -- `mergeCells`
   unfoldable pub EachCell : Netlist → Merging → List ℕ → Type 0
