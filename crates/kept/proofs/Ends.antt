@@ -122,7 +122,7 @@ module _ (d : Netlist) (rank : ℕ → ℕ) (sound : Sound d rank) where
       go (driven.Const t) e = itself (ap (drivenTo rs n) e)
       go (driven.Cell x) e = slot x e (decLt (x .0) total)
 
-  -- a slot that waits is findOrInsert: it is replaced by a net that the numberer has, or enters its own
+  -- a slot that waits gets its number: it is replaced by a net that the numberer has, or enters its own
   module _ (done : List ℕ) (s : ℕ) (small : s < total) (new : has s done ≡ false) where
     abbrev now-done : List ℕ
     now-done = done ++ (s ∷ [])
