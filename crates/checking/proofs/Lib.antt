@@ -1,3 +1,4 @@
 pub mod Stages
+pub mod Groups
 pub mod Records
 pub mod Netlist

@@ -2,17 +2,16 @@
 use mathlib.Core.Path.{_≡_, refl, sym, ap, _∙_, subst}
 use mathlib.Core.Bool.{Bool, true, false, cond, not, _&&_, _||_}
 use mathlib.Core.Logic.{⊎-elim}
-use mathlib.Core.List.{List, [], _∷_, _++_}
-use Prim.Native.Nat.{ℕ, zero, suc, _+_, _/_, _%_, _<_, _≤_}
+use mathlib.Core.List.{List, [], _∷_}
+use Prim.Native.Nat.{ℕ, _/_, _%_, _<_, _≤_}
 use native.Mathlib.Omega.{arith}
-use native.Mathlib.Numerals.{add-one}
-use lib.Dec.{eqb, ltb}
+use lib.Dec.{ltb}
 use lib.ListN.{length, drop}
 use borrow.Author.Tests.{ltb-true, lt-ltb, le-ltb, eq-eqb, ne-eqb}
 use Rattle.value.specs.declared.Slot.{Slot}
 use Rattle.value.specs.declared.Driver.{Driver}
 use Rattle.value.specs.declared.Driver.the-variants as driven
-use Rattle.value.specs.Value.{netAt, slotAt, driver}
+use Rattle.value.specs.Value.{netAt, driver}
 use Rattle.cell.specs.declared.Record.{Record}
 use Rattle.cell.specs.declared.Edge.{Edge}
 use Rattle.cell.specs.declared.Edge.the-variants.{To, Nowhere}
@@ -26,12 +25,13 @@ use Rattle.loops.specs.Search.{Searchable, Finds}
 use Rattle.loops.proofs.Edges.{edge-field, edge-below}
 use Rattle.loops.proofs.Lowest.{IsLowest, lowest-on-loop}
 use Rattle.checking.specs.declared.Refusal.{Refusal}
-use Rattle.checking.specs.declared.Refusal.the-variants.{PartialRecord, TooManyRecords, ShortWork, Loop}
+use Rattle.checking.specs.declared.Refusal.the-variants.{PartialRecord, TooManyRecords, Loop}
 use Rattle.checking.specs.declared.Verdict.{Verdict}
 use Rattle.checking.specs.declared.Verdict.the-variants.{Pass, Refused}
-use Rattle.checking.specs.Refusals.{Stage, firstOf, slotBySlot}
-use Rattle.checking.specs.Checking.{undriven, undrivenField, undrivenOperand, recordStages, loopStages, netlistStages, checkStages}
-use Rattle.checking.proofs.Stages.{first-refuses, first-passes, passed-exactly, later-decides, earlier-decides, slots-passed, no-stage, slots-none, slots-more, slots-refused}
+use Rattle.checking.specs.Refusals.{firstOf, slotBySlot}
+use Rattle.checking.specs.Checking.{undriven, undrivenField, undrivenOperand, loopStage, workStage, lengthStage, sizeStage, recordStages, loopStages, sizeGroup, recordGroup, loopGroup, netlistStages, checkStages}
+use Rattle.checking.proofs.Stages.{first-refuses, first-passes, one-exactly, slots-exactly, slots-refused}
+use Rattle.checking.proofs.Groups.{operand-exactly, loop-exactly, records-exactly, loops-exactly, netlist-exactly, records-decide, records-passed, sizes-decide, sizes-passed}
 
 either-false : (a b : Bool) → a || b ≡ false → (a ≡ false) × (b ≡ false)
 either-false true b e = let z : _≡_ {A = ℕ} 0 1 = cc in absurd (omega arith)
@@ -67,44 +67,34 @@ module _ (rs : List Record) (r : Record) (f : ℕ) (x : Slot) where
       ⊎-elim (at 1 (g₁ .0)) (⊎-elim (at 2 (g₂ .0)) (at 3 (g₂ .1))) (edge-field r f x e)
 
 -- where the records pass, every edge leads to a record
-edges-inside : (rs : List Record) → firstOf (slotBySlot (recordStages rs) (length rs)) ≡ Pass → (s f : ℕ) (x : Slot) → edgeAt (recordIn rs s) f ≡ To x → x .0 < length rs
-unfolding recordStages
+edges-inside : (rs : List Record) → firstOf (recordGroup rs) ≡ Pass → (s f : ℕ) (x : Slot) → edgeAt (recordIn rs s) f ≡ To x → x .0 < length rs
 edges-inside rs p s f x e =
-    operand-inside rs (recordIn rs s) f x
-    (passed-exactly (recordStages rs s) .0 (slots-passed (recordStages rs) (length rs) s p (edge-below rs s f x e)) 3 (omega arith)) e
+    operand-inside rs (recordIn rs s) f x (operand-exactly rs s .0 (records-exactly rs .0 p s (edge-below rs s f x e) .operands)) e
 
 -- 8: the lowest slot on a loop, as the stages have it
 module _ (rs : List Record) where
-  free-below : (i : ℕ) → ((k : ℕ) → k < i → onLoop rs k ≡ false) → Pass ≡ firstOf (slotBySlot (loopStages rs) i)
-  unfolding loopStages
-  free-below zero h = slots-none (loopStages rs)
-  free-below (suc i) h =
-      subst (λ (k : ℕ). Pass ≡ firstOf (slotBySlot (loopStages rs) k)) (add-one i)
-      (slots-more (loopStages rs) i (free-below i (λ k l. h k (omega arith))) (sym (first-passes (onLoop rs i, Loop (slotAt i)) [] (h i (omega arith)) ∙ no-stage)))
+  free-below : (i : ℕ) → ((k : ℕ) → k < i → onLoop rs k ≡ false) → firstOf (slotBySlot (loopStages rs) i) ≡ Pass
+  free-below i h = slots-exactly (loopStages rs) i .1 (λ k l. loop-exactly rs k .1 (h k l))
 
-  lowest : (n : ℕ) (s : Slot) → s .0 < n → onLoop rs (s .0) ≡ true → ((k : ℕ) → k < s .0 → onLoop rs k ≡ false) → Refused (Loop s) ≡ firstOf (slotBySlot (loopStages rs) n)
-  unfolding loopStages
-  lowest n s l h b = slots-refused (loopStages rs) n (s .0) (Loop s) l (free-below (s .0) b) (sym (first-refuses (onLoop rs (s .0), Loop s) [] h))
+  lowest : (s : Slot) → s .0 < length rs → onLoop rs (s .0) ≡ true → ((k : ℕ) → k < s .0 → onLoop rs k ≡ false) → Refused (Loop s) ≡ firstOf (loopGroup rs)
+  unfolding loopGroup loopStages
+  lowest s l h b = slots-refused (loopStages rs) (length rs) (s .0) (Loop s) l (sym (free-below (s .0) b)) (sym (first-refuses (loopStage rs (s .0)) [] h))
 
 -- 4 to 7, then 8
 module _ (t : List ℕ) (n : ℕ) (e : n ≡ length t / 16) (v : Verdict) (v-is : v ≡ firstOf (slotBySlot (recordStages (recordsOf t)) n)) where
   count : length (recordsOf t) ≡ n
   count = records-length t ∙ sym e
 
-  by-count : (stages : ℕ → List Stage) (w : Verdict) → w ≡ firstOf (slotBySlot stages n) → w ≡ firstOf (slotBySlot stages (length (recordsOf t)))
-  by-count stages w f = subst (λ (k : ℕ). w ≡ firstOf (slotBySlot stages k)) (sym count) f
+  group-is : firstOf (recordGroup (recordsOf t)) ≡ v
+  unfolding recordGroup
+  group-is = ap (λ (k : ℕ). firstOf (slotBySlot (recordStages (recordsOf t)) k)) count ∙ sym v-is
 
   pub records-refuse : (x : Refusal) → v ≡ Refused x → Refused x ≡ firstOf (netlistStages (recordsOf t))
-  unfolding netlistStages
-  records-refuse x f = sym (earlier-decides (slotBySlot (recordStages (recordsOf t)) (length (recordsOf t))) _ x (sym (by-count (recordStages (recordsOf t)) (Refused x) (sym f ∙ v-is))))
+  records-refuse x f = sym (records-decide (recordsOf t) x (group-is ∙ f))
 
   module _ (f : v ≡ Pass) where
-    all-pass : firstOf (slotBySlot (recordStages (recordsOf t)) (length (recordsOf t))) ≡ Pass
-    all-pass = sym (by-count (recordStages (recordsOf t)) Pass (sym f ∙ v-is))
-
-    loops-decide : (w : Verdict) → w ≡ firstOf (slotBySlot (loopStages (recordsOf t)) (length (recordsOf t))) → w ≡ firstOf (netlistStages (recordsOf t))
-    unfolding netlistStages
-    loops-decide w g = g ∙ sym (later-decides (slotBySlot (recordStages (recordsOf t)) (length (recordsOf t))) _ all-pass)
+    all-pass : firstOf (recordGroup (recordsOf t)) ≡ Pass
+    all-pass = group-is ∙ f
 
     pub searchable : (ws : List ℕ) → 16384 ≤ length ws → n ≤ 512 → Searchable (recordsOf t) n ws
     searchable ws l m = record {
@@ -122,32 +112,32 @@ module _ (t : List ℕ) (n : ℕ) (e : n ≡ length t / 16) (v : Verdict) (v-is 
       unfolding IsLowest
       loop-refuses s g =
           let h : IsLowest (onLoop (recordsOf t)) (length (recordsOf t)) (At s) = subst (IsLowest (onLoop (recordsOf t)) (length (recordsOf t))) g is-lowest in
-          loops-decide (Refused (Loop s)) (lowest (recordsOf t) (length (recordsOf t)) s (h .0) (h .1) (h .2))
+          lowest (recordsOf t) s (h .0) (h .1) (h .2) ∙ sym (records-passed (recordsOf t) all-pass)
 
       pub loop-passes : r ≡ Nothing → Pass ≡ firstOf (netlistStages (recordsOf t))
       unfolding IsLowest
       loop-passes g =
-          loops-decide Pass (free-below (recordsOf t) (length (recordsOf t)) (subst (IsLowest (onLoop (recordsOf t)) (length (recordsOf t))) g is-lowest))
+          let free = loops-exactly (recordsOf t) .1 (subst (IsLowest (onLoop (recordsOf t)) (length (recordsOf t))) g is-lowest) in
+          sym (netlist-exactly (recordsOf t) .1 (record { records = all-pass; loops = free }))
 
       pub rest-kept : drop 16384 ws′ ≡ drop 16384 ws
       rest-kept = found .rest
 
 -- 2 and 3, then the rest
 module _ (words : ℕ) (t : List ℕ) (long : 16384 ≤ words) where
-  past-work : firstOf (checkStages words t)
-      ≡ firstOf ((not (eqb (length t % 16) 0), PartialRecord) ∷ (ltb 512 (length t / 16), TooManyRecords) ∷ netlistStages (recordsOf t))
-  unfolding checkStages
-  past-work = first-passes (ltb words 16384, ShortWork) _ (le-ltb words 16384 long)
+  past-work : firstOf (sizeGroup words t) ≡ firstOf (lengthStage t ∷ sizeStage t ∷ [])
+  unfolding sizeGroup
+  past-work = first-passes (workStage words) _ (le-ltb words 16384 long)
 
   pub torn : (length t % 16 ≡ 0 → ⊥) → Refused PartialRecord ≡ firstOf (checkStages words t)
-  torn h = sym (past-work ∙ first-refuses (not (eqb (length t % 16) 0), PartialRecord) _ (ap not (ne-eqb (length t % 16) 0 h)))
+  torn h = sym (sizes-decide words t PartialRecord (past-work ∙ first-refuses (lengthStage t) _ (ap not (ne-eqb (length t % 16) 0 h))))
 
   module _ (whole : length t % 16 ≡ 0) where
-    past-torn : firstOf (checkStages words t) ≡ firstOf ((ltb 512 (length t / 16), TooManyRecords) ∷ netlistStages (recordsOf t))
-    past-torn = past-work ∙ first-passes (not (eqb (length t % 16) 0), PartialRecord) _ (ap not (eq-eqb (length t % 16) 0 whole))
+    past-torn : firstOf (sizeGroup words t) ≡ firstOf (sizeStage t ∷ [])
+    past-torn = past-work ∙ first-passes (lengthStage t) _ (ap not (eq-eqb (length t % 16) 0 whole))
 
     pub too-many : 512 < length t / 16 → Refused TooManyRecords ≡ firstOf (checkStages words t)
-    too-many h = sym (past-torn ∙ first-refuses (ltb 512 (length t / 16), TooManyRecords) _ (lt-ltb 512 (length t / 16) h))
+    too-many h = sym (sizes-decide words t TooManyRecords (past-torn ∙ first-refuses (sizeStage t) [] (lt-ltb 512 (length t / 16) h)))
 
     pub netlist-decides : length t / 16 ≤ 512 → (v : Verdict) → v ≡ firstOf (netlistStages (recordsOf t)) → v ≡ firstOf (checkStages words t)
-    netlist-decides h v f = f ∙ sym (past-torn ∙ first-passes (ltb 512 (length t / 16), TooManyRecords) _ (le-ltb 512 (length t / 16) h))
+    netlist-decides h v f = f ∙ sym (sizes-passed words t (past-torn ∙ one-exactly (sizeStage t) .1 (le-ltb 512 (length t / 16) h)))

@@ -24,9 +24,10 @@ use Rattle.checking.specs.declared.Refusal.{Refusal}
 use Rattle.checking.specs.declared.Refusal.the-variants.{UnknownKind, ReservedField, BitOutOfSequence, UndrivenOperand}
 use Rattle.checking.specs.declared.Verdict.{Verdict}
 use Rattle.checking.specs.declared.Verdict.the-variants.{Pass, Refused}
-use Rattle.checking.specs.Refusals.{Stage, firstOf, slotBySlot}
-use Rattle.checking.specs.Checking.{unknownKind, reservedField, follows, outOfSequence, bitOutOfSequence, undriven, undrivenField, undrivenOperand, recordStages, gateCount}
-use Rattle.checking.proofs.Stages.{first-refuses, first-passes, slots-more, slots-refused}
+use Rattle.checking.specs.Refusals.{firstOf, slotBySlot}
+use Rattle.checking.specs.Checking.{unknownKind, reservedField, follows, outOfSequence, bitOutOfSequence, undriven, undrivenField, undrivenOperand, kindStage, fieldStage, bitStage, operandStage, kindStages, fieldStages, bitStages, operandStages, recordStages, gateCount}
+use Rattle.checking.proofs.Stages.{first-refuses, slots-more, slots-refused}
+use Rattle.checking.proofs.Groups.{kind-exactly, field-exactly, bit-exactly, operand-exactly, record-exactly, kind-decides, field-decides, bit-decides, operand-decides}
 
 -- an operand that names a slot past the last record, and one that names a record
 module _ (t : List ℕ) (n : ℕ) (d : Driver) (s : Slot) (e : n ≡ length t / 16) (q : d ≡ driven.Cell s) where
@@ -71,43 +72,57 @@ module _ (rs : List Record) (r : Record) where
       unfolding undrivenOperand
       operand-c e z z-is = rw (← x-is, x-no, ← y-is, e) z-is
 
--- the four tests of a record, in their order
+-- the four groups of a record, a test each, in their order
 module _ (t : List ℕ) (n : ℕ) (s : Slot) (e : n ≡ length t / 16) (h : s .0 < n) (r : Record) (q : r ≡ recordAt t (s .0)) where
-  stages-are : (p : Record) → p ≡ recordAt t (s .0 - 1)
-      → recordStages (recordsOf t) (s .0)
-      ≡ (unknownKind r, UnknownKind s) ∷ (reservedField r, ReservedField s) ∷ (outOfSequence (s .0) p r, BitOutOfSequence s) ∷ (undrivenOperand (recordsOf t) r, UndrivenOperand s) ∷ []
-  unfolding recordStages bitOutOfSequence
-  stages-are p f = rw (records-at t (s .0) (omega arith), records-at t (s .0 - 1) (omega arith), ← q, ← f)
+  abbrev rs : List Record
+  rs = recordsOf t
+
+  here : recordIn rs (s .0) ≡ r
+  here = records-at t (s .0) (omega arith) ∙ sym q
 
   module _ (x : Bool) (x-is : x ≡ unknownKind r) where
     pub refuses-4 : x ≡ true → Refused (UnknownKind s) ≡ firstOf (recordStages (recordsOf t) (s .0))
-    refuses-4 f = sym (ap firstOf (stages-are (recordAt t (s .0 - 1)) refl) ∙ first-refuses (unknownKind r, UnknownKind s) _ (sym x-is ∙ f))
+    unfolding kindStages
+    refuses-4 f = sym (kind-decides rs (s .0) (UnknownKind s) (first-refuses (kindStage rs (s .0)) [] (ap unknownKind here ∙ sym x-is ∙ f)))
 
     module _ (x-no : x ≡ false) (y : Bool) (y-is : y ≡ reservedField r) where
+      kind-passed : firstOf (kindStages rs (s .0)) ≡ Pass
+      kind-passed = kind-exactly rs (s .0) .1 (ap unknownKind here ∙ sym x-is ∙ x-no)
+
       pub refuses-5 : y ≡ true → Refused (ReservedField s) ≡ firstOf (recordStages (recordsOf t) (s .0))
+      unfolding fieldStages
       refuses-5 f =
-          sym (ap firstOf (stages-are (recordAt t (s .0 - 1)) refl) ∙ first-passes (unknownKind r, UnknownKind s) _ (sym x-is ∙ x-no)
-          ∙ first-refuses (reservedField r, ReservedField s) _ (sym y-is ∙ f))
+          sym (field-decides rs (s .0) (ReservedField s) kind-passed (first-refuses (fieldStage rs (s .0)) [] (ap reservedField here ∙ sym y-is ∙ f)))
 
       module _ (y-no : y ≡ false) (p : Record) (p-is : p ≡ recordAt t (s .0 - 1)) (z : Bool) (z-is : z ≡ outOfSequence (s .0) p r) where
-        past-5 : firstOf (recordStages (recordsOf t) (s .0)) ≡ firstOf ((outOfSequence (s .0) p r, BitOutOfSequence s) ∷ (undrivenOperand (recordsOf t) r, UndrivenOperand s) ∷ [])
-        past-5 =
-            ap firstOf (stages-are p p-is) ∙ first-passes (unknownKind r, UnknownKind s) _ (sym x-is ∙ x-no)
-            ∙ first-passes (reservedField r, ReservedField s) _ (sym y-is ∙ y-no)
+        fields-passed : firstOf (fieldStages rs (s .0)) ≡ Pass
+        fields-passed = field-exactly rs (s .0) .1 (ap reservedField here ∙ sym y-is ∙ y-no)
+
+        in-sequence : bitOutOfSequence rs (s .0) ≡ z
+        unfolding bitOutOfSequence
+        in-sequence = ap₂ (outOfSequence (s .0)) (records-at t (s .0 - 1) (omega arith) ∙ sym p-is) here ∙ sym z-is
 
         pub refuses-6 : z ≡ true → Refused (BitOutOfSequence s) ≡ firstOf (recordStages (recordsOf t) (s .0))
-        refuses-6 f = sym (past-5 ∙ first-refuses (outOfSequence (s .0) p r, BitOutOfSequence s) _ (sym z-is ∙ f))
+        unfolding bitStages
+        refuses-6 f =
+            sym (bit-decides rs (s .0) (BitOutOfSequence s) kind-passed fields-passed (first-refuses (bitStage rs (s .0)) [] (in-sequence ∙ f)))
 
         module _ (z-no : z ≡ false) (w : Bool) (w-is : w ≡ undrivenOperand (recordsOf t) r) where
-          past-6 : firstOf (recordStages (recordsOf t) (s .0)) ≡ firstOf ((undrivenOperand (recordsOf t) r, UndrivenOperand s) ∷ [])
-          past-6 = past-5 ∙ first-passes (outOfSequence (s .0) p r, BitOutOfSequence s) _ (sym z-is ∙ z-no)
+          bits-passed : firstOf (bitStages rs (s .0)) ≡ Pass
+          bits-passed = bit-exactly rs (s .0) .1 (in-sequence ∙ z-no)
+
+          driven-as : undrivenOperand rs (recordIn rs (s .0)) ≡ w
+          driven-as = ap (undrivenOperand rs) here ∙ sym w-is
 
           pub refuses-7 : w ≡ true → Refused (UndrivenOperand s) ≡ firstOf (recordStages (recordsOf t) (s .0))
-          refuses-7 f = sym (past-6 ∙ first-refuses (undrivenOperand (recordsOf t) r, UndrivenOperand s) [] (sym w-is ∙ f))
+          unfolding operandStages
+          refuses-7 f =
+              sym (operand-decides rs (s .0) (UndrivenOperand s) kind-passed fields-passed bits-passed (first-refuses (operandStage rs (s .0)) [] (driven-as ∙ f)))
 
           pub refuses-none : w ≡ false → Pass ≡ firstOf (recordStages (recordsOf t) (s .0))
-          unfolding firstOf
-          refuses-none f = sym (past-6 ∙ first-passes (undrivenOperand (recordsOf t) r, UndrivenOperand s) [] (sym w-is ∙ f))
+          refuses-none f =
+              sym (record-exactly rs (s .0) .1
+              (record { kind = kind-passed; fields = fields-passed; bits = bits-passed; operands = operand-exactly rs (s .0) .1 (driven-as ∙ f) }))
 
 -- the loop over the records
 module _ (t : List ℕ) (n s : ℕ) (l : s < n) (e : Pass ≡ firstOf (slotBySlot (recordStages (recordsOf t)) s)) (v : Verdict) (v-is : v ≡ firstOf (recordStages (recordsOf t) s)) where

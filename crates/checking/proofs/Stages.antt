@@ -98,6 +98,10 @@ if-pass (st ∷ sts) b = first-passes st sts (b 0 (omega arith)) ∙ if-pass sts
 pub passed-exactly : (sts : List Stage) → (firstOf sts ≡ Pass) ↔ ((j : ℕ) → j < length sts → condition sts j ≡ false)
 passed-exactly sts = (pass-if sts, if-pass sts)
 
+-- one stage alone
+pub one-exactly : (st : Stage) → (firstOf (st ∷ []) ≡ Pass) ↔ (st .0 ≡ false)
+one-exactly st = (λ e. pass-if (st ∷ []) e 0 (omega arith), λ h. first-passes st [] h ∙ no-stage)
+
 -- two lists of stages, one after the other
 pub later-decides : (xs ys : List Stage) → firstOf xs ≡ Pass → firstOf (xs ++ ys) ≡ firstOf ys
 later-decides [] ys e = refl
@@ -122,6 +126,30 @@ passes-both xs ys e = go (firstOf xs) refl
     go : (v : Verdict) → firstOf xs ≡ v → (firstOf xs ≡ Pass) × (firstOf ys ≡ Pass)
     go Pass h = (h, sym (later-decides xs ys h) ∙ e)
     go (Refused r) h = absurd (passes-not r (sym e ∙ earlier-decides xs ys r h))
+
+-- groups of stages, one after the other: all pass exactly if each group does
+pub both-exactly : (xs ys : List Stage) → (firstOf (xs ++ ys) ≡ Pass) ↔ ((firstOf xs ≡ Pass) × (firstOf ys ≡ Pass))
+both-exactly xs ys = (passes-both xs ys, λ p. later-decides xs ys (p .0) ∙ p .1)
+
+-- groups with the same verdicts can stand for each other
+pub both-same : (xs xs′ ys ys′ : List Stage) → firstOf xs ≡ firstOf xs′ → firstOf ys ≡ firstOf ys′ → firstOf (xs ++ ys) ≡ firstOf (xs′ ++ ys′)
+both-same xs xs′ ys ys′ e f = go (firstOf xs) refl
+  where
+    go : (v : Verdict) → firstOf xs ≡ v → firstOf (xs ++ ys) ≡ firstOf (xs′ ++ ys′)
+    go Pass h = later-decides xs ys h ∙ f ∙ sym (later-decides xs′ ys′ (sym e ∙ h))
+    go (Refused r) h = earlier-decides xs ys r h ∙ sym (earlier-decides xs′ ys′ r (sym e ∙ h))
+
+-- THE LAW of a group put in or left out: if it passes, at least where all before it pass, the verdict with it is the verdict without it.
+-- At the end, and with others behind it
+pub last-out : (xs g : List Stage) → (firstOf xs ≡ Pass → firstOf g ≡ Pass) → firstOf (xs ++ g) ≡ firstOf xs
+last-out xs g p = go (firstOf xs) refl
+  where
+    go : (v : Verdict) → firstOf xs ≡ v → firstOf (xs ++ g) ≡ firstOf xs
+    go Pass h = later-decides xs g h ∙ p h ∙ sym h
+    go (Refused r) h = earlier-decides xs g r h ∙ sym h
+
+pub group-out : (xs g ys : List Stage) → (firstOf xs ≡ Pass → firstOf g ≡ Pass) → firstOf (xs ++ g ++ ys) ≡ firstOf (xs ++ ys)
+group-out xs g ys p = both-same (xs ++ g) xs ys ys (last-out xs g p) refl
 
 -- slot by slot: the lowest refused slot decides
 module _ (stages : ℕ → List Stage) where
@@ -155,3 +183,23 @@ module _ (stages : ℕ → List Stage) where
       go : (firstOf (slotBySlot stages n) ≡ Pass → i < n → firstOf (stages i) ≡ Pass) → Dec (i < n) → firstOf (stages i) ≡ Pass
       go rec (yes m) = rec (both-pass .0) m
       go rec (no m) = subst (λ (k : ℕ). firstOf (stages k) ≡ Pass) (omega arith) (both-pass .1)
+
+  slots-pass : (n : ℕ) → ((i : ℕ) → i < n → firstOf (stages i) ≡ Pass) → firstOf (slotBySlot stages n) ≡ Pass
+  unfolding slotBySlot
+  slots-pass zero h = no-stage
+  slots-pass (suc n) h = later-decides (slotBySlot stages n) (stages n) (slots-pass n (λ i l. h i (omega arith))) ∙ h n (omega arith)
+
+  -- all slots pass exactly if each does
+  pub slots-exactly : (n : ℕ) → (firstOf (slotBySlot stages n) ≡ Pass) ↔ ((i : ℕ) → i < n → firstOf (stages i) ≡ Pass)
+  slots-exactly n = (λ e i l. slots-passed n i e l, slots-pass n)
+
+-- slot by slot: what has the same verdict at each slot has the same verdict
+pub slots-same : (xs ys : ℕ → List Stage) (n : ℕ) → ((i : ℕ) → i < n → firstOf (xs i) ≡ firstOf (ys i)) → firstOf (slotBySlot xs n) ≡ firstOf (slotBySlot ys n)
+unfolding slotBySlot
+slots-same xs ys zero h = refl
+slots-same xs ys (suc n) h = both-same (slotBySlot xs n) (slotBySlot ys n) (xs n) (ys n) (slots-same xs ys n (λ i l. h i (omega arith))) (h n (omega arith))
+
+-- the law of a group put in or left out, where it stands among the stages of each slot
+pub slots-group-out : (xs g ys : ℕ → List Stage) (n : ℕ) → ((i : ℕ) → i < n → firstOf (xs i) ≡ Pass → firstOf (g i) ≡ Pass)
+    → firstOf (slotBySlot (λ i. xs i ++ g i ++ ys i) n) ≡ firstOf (slotBySlot (λ i. xs i ++ ys i) n)
+slots-group-out xs g ys n p = slots-same (λ i. xs i ++ g i ++ ys i) (λ i. xs i ++ ys i) n (λ i l. group-out (xs i) (g i) (ys i) (p i l))

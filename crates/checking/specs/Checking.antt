@@ -86,19 +86,50 @@ lengthStage t = (not (eqb (length t % 16) 0), PartialRecord)
 abbrev pub sizeStage : List ℕ → Stage
 sizeStage t = (ltb maxRecords (length t / 16), TooManyRecords)
 
--- 4 to 7, record by record, then 8
-unfoldable pub recordStages : List Record → ℕ → List Stage
-recordStages rs s = kindStage rs s ∷ fieldStage rs s ∷ bitStage rs s ∷ operandStage rs s ∷ []
+-- The stages stand in groups: a group is passed, refuses, is put in or left out as a whole.
+-- 4 of one record
+unfoldable pub kindStages : List Record → ℕ → List Stage
+kindStages rs s = kindStage rs s ∷ []
 
+-- 5 of one record
+unfoldable pub fieldStages : List Record → ℕ → List Stage
+fieldStages rs s = fieldStage rs s ∷ []
+
+-- 6 of one record
+unfoldable pub bitStages : List Record → ℕ → List Stage
+bitStages rs s = bitStage rs s ∷ []
+
+-- 7 of one record
+unfoldable pub operandStages : List Record → ℕ → List Stage
+operandStages rs s = operandStage rs s ∷ []
+
+-- 4 to 7 of one record
+unfoldable pub recordStages : List Record → ℕ → List Stage
+recordStages rs s = kindStages rs s ++ fieldStages rs s ++ bitStages rs s ++ operandStages rs s
+
+-- 8 of one record
 unfoldable pub loopStages : List Record → ℕ → List Stage
 loopStages rs s = loopStage rs s ∷ []
 
+-- 1 to 3
+unfoldable pub sizeGroup : ℕ → List ℕ → List Stage
+sizeGroup words t = workStage words ∷ lengthStage t ∷ sizeStage t ∷ []
+
+-- 4 to 7, record by record
+unfoldable pub recordGroup : List Record → List Stage
+recordGroup rs = slotBySlot (recordStages rs) (length rs)
+
+-- 8, record by record
+unfoldable pub loopGroup : List Record → List Stage
+loopGroup rs = slotBySlot (loopStages rs) (length rs)
+
+-- 4 to 7, then 8
 unfoldable pub netlistStages : List Record → List Stage
-netlistStages rs = slotBySlot (recordStages rs) (length rs) ++ slotBySlot (loopStages rs) (length rs)
+netlistStages rs = recordGroup rs ++ loopGroup rs
 
 -- 1 to 8
 unfoldable pub checkStages : ℕ → List ℕ → List Stage
-checkStages words t = workStage words ∷ lengthStage t ∷ sizeStage t ∷ netlistStages (recordsOf t)
+checkStages words t = sizeGroup words t ++ netlistStages (recordsOf t)
 
 -- what each record adds by the kind table: 1, and 0 for inputs and outputs
 unfoldable pub gateCount : List Record → ℕ

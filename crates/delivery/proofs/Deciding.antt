@@ -1,6 +1,6 @@
 -- How the stages of a call decide, for any answer: those of checking first, the call's own behind them. Assumes nothing.
 use mathlib.Core.Path.{_≡_, sym, ap, _∙_}
-use mathlib.Core.List.{List, [], _∷_, _++_}
+use mathlib.Core.List.{List, _++_}
 use Prim.Native.Nat.{ℕ, _/_, _<_, _≤_}
 use native.Mathlib.Omega.{arith}
 use lib.ListN.{length, drop}
@@ -11,8 +11,9 @@ use Rattle.checking.specs.declared.Refusal.the-variants.{ShortWork}
 use Rattle.checking.specs.declared.Verdict.{Verdict}
 use Rattle.checking.specs.declared.Verdict.the-variants.{Pass, Refused}
 use Rattle.checking.specs.Refusals.{Stage, firstOf}
-use Rattle.checking.specs.Checking.{workStage, lengthStage, sizeStage, netlistStages, checkStages}
-use Rattle.checking.proofs.Stages.{first-refuses, later-decides, earlier-decides, passed-exactly, passes-both}
+use Rattle.checking.specs.Checking.{workStage, sizeGroup, netlistStages, checkStages}
+use Rattle.checking.proofs.Stages.{first-refuses, later-decides, earlier-decides}
+use Rattle.checking.proofs.Groups.{CheckPasses, sizes-exactly, check-exactly, sizes-decide}
 use Rattle.calls.specs.declared.Written.the-variants as written
 use Rattle.calls.specs.Answers.{writtenBy}
 use Rattle.calls.specs.Calls.{replyAfter}
@@ -21,8 +22,8 @@ use Rattle.delivery.specs.Delivery.{Decides, Passed}
 -- 1
 module _ (words : ℕ) (t : List ℕ) (h : words < 16384) where
   pub short-refused : firstOf (checkStages words t) ≡ Refused ShortWork
-  unfolding checkStages
-  short-refused = first-refuses (workStage words) (lengthStage t ∷ sizeStage t ∷ netlistStages (recordsOf t)) (lt-ltb words 16384 h)
+  unfolding sizeGroup
+  short-refused = sizes-decide words t ShortWork (first-refuses (workStage words) _ (lt-ltb words 16384 h))
 
   module _ (own : List Stage) where
     pub short-decides : firstOf (checkStages words t ++ own) ≡ Refused ShortWork
@@ -36,13 +37,14 @@ module _ (words : ℕ) (t : List ℕ) (h : words < 16384) where
 
 -- 2 to 8
 module _ (words : ℕ) (t : List ℕ) (v : Verdict) (v-is : v ≡ firstOf (checkStages words t)) (e : v ≡ Pass) where
+  groups : CheckPasses words t
+  groups = check-exactly words t .0 (sym v-is ∙ e)
+
   pub passed-few : length t / 16 ≤ 512
-  unfolding checkStages
-  passed-few = ltb-false 512 (length t / 16) (passed-exactly (checkStages words t) .0 (sym v-is ∙ e) 2 (omega arith))
+  passed-few = ltb-false 512 (length t / 16) (sizes-exactly words t .0 (groups .sizes) .few)
 
   passed-netlist : firstOf (netlistStages (recordsOf t)) ≡ Pass
-  unfolding checkStages
-  passed-netlist = passes-both (workStage words ∷ lengthStage t ∷ sizeStage t ∷ []) (netlistStages (recordsOf t)) (sym v-is ∙ e) .1
+  passed-netlist = groups .netlist
 
 pub ticket-passed : (t ws₀ ws : List ℕ) (v : Verdict) → v ≡ firstOf (checkStages (length ws₀) t) → v ≡ Pass → length ws ≡ length ws₀ → 16384 ≤ length ws₀
     → Passed t ws

@@ -24,9 +24,9 @@ use Rattle.cell.specs.Records.{recordOf, recordAt, recordsOf, recordIn, bytesOf
 use Rattle.cell.proofs.Lists.{records-length, records-at}
 use Rattle.cell.proofs.RoundTrips.{cell-back, Ranged, bytes-back}
 use Rattle.checking.specs.Refusals.{firstOf}
-use Rattle.checking.specs.Checking.{netlistStages, checkStages, workStage, lengthStage, sizeStage}
+use Rattle.checking.specs.Checking.{netlistStages}
 use Rattle.checking.specs.declared.Verdict.the-variants.{Pass}
-use Rattle.checking.proofs.Stages.{first-passes}
+use Rattle.checking.proofs.Groups.{SizesPass, sizes-exactly, check-exactly}
 use Rattle.netlist.specs.Shape.{visit, visitMut, hasEffects}
 use Rattle.netlist.specs.Netlist.{Netlist, netlistOf, cellIn, joined, encode, ticketOf}
 use Rattle.compact.proofs.Lists.{ticket-length}
@@ -213,9 +213,11 @@ module _ (d : Netlist) (rank : ℕ → ℕ) (good : Sound d rank) (labelled : La
 
   -- so checking passes it, where they are not too many
   pub encoded-passes : (words : ℕ) → ltb words 16384 ≡ false → length (encoded d) / 16 ≤ 512 → checkVerdict words (encoded d) ≡ Pass
-  unfolding checkVerdict checkStages
+  unfolding checkVerdict
   encoded-passes words enough l =
-      first-passes (workStage words) _ enough
-      ∙ first-passes (lengthStage (encoded d)) _ (ap not (eq-eqb (length (encoded d) % 16) 0 encoded-whole))
-      ∙ first-passes (sizeStage (encoded d)) _ (le-ltb 512 (length (encoded d) / 16) l)
-      ∙ encoded-records
+      let sizes : SizesPass words (encoded d) = record {
+        work = enough;
+        whole = ap not (eq-eqb (length (encoded d) % 16) 0 encoded-whole);
+        few = le-ltb 512 (length (encoded d) / 16) l;
+      } in
+      check-exactly words (encoded d) .1 (record { sizes = sizes-exactly words (encoded d) .1 sizes; netlist = encoded-records })

@@ -1,8 +1,8 @@
 -- The records of a sound netlist pass checking. Assumes nothing.
 use mathlib.Core.Path.{_≡_, refl, sym, ap, _∙_}
 use mathlib.Core.Bool.{Bool, true, false, _&&_, not}
-use mathlib.Core.List.{List, []}
-use Prim.Native.Nat.{ℕ, zero, suc, _-_, _<_}
+use mathlib.Core.List.{List}
+use Prim.Native.Nat.{ℕ, _-_, _<_}
 use native.Mathlib.Omega.{arith}
 use lib.Dec.{eqb}
 use lib.ListN.{length, getD}
@@ -22,9 +22,9 @@ use Rattle.cell.proofs.Lists.{tabulate-length, tabulate-at}
 use Rattle.loops.specs.Reach.{OnLoop}
 use Rattle.loops.proofs.Reach.{onLoop-false}
 use Rattle.checking.specs.declared.Verdict.the-variants.{Pass}
-use Rattle.checking.specs.Refusals.{Stage, firstOf, slotBySlot}
-use Rattle.checking.specs.Checking.{unknownKind, reservedField, bitOutOfSequence, undriven, undrivenField, undrivenOperand, kindStage, fieldStage, bitStage, operandStage, loopStage, recordStages, loopStages, netlistStages}
-use Rattle.checking.proofs.Stages.{first-passes, no-stage, later-decides}
+use Rattle.checking.specs.Refusals.{firstOf}
+use Rattle.checking.specs.Checking.{unknownKind, reservedField, bitOutOfSequence, undriven, undrivenField, undrivenOperand, netlistStages}
+use Rattle.checking.proofs.Groups.{RecordPasses, kind-exactly, field-exactly, bit-exactly, operand-exactly, records-exactly, loops-exactly, netlist-exactly}
 use Rattle.netlist.specs.Shape.{visit}
 use Rattle.netlist.specs.Netlist.{Netlist, cellIn, encode}
 use Rattle.order_laws.specs.Members.{All, Wired}
@@ -72,12 +72,6 @@ module _ (rs : List Record) where
       let r : Record = cellRecord bit c in
       rw (field-driven r 1 (g .0), field-driven r 2 (g .1), field-driven r 3 (g .2))
 
--- slot by slot
-all-pass : (stages : ℕ → List Stage) (n : ℕ) → ((i : ℕ) → i < n → firstOf (stages i) ≡ Pass) → firstOf (slotBySlot stages n) ≡ Pass
-unfolding slotBySlot
-all-pass stages zero h = no-stage
-all-pass stages (suc n) h = later-decides (slotBySlot stages n) (stages n) (all-pass stages n (λ i l. h i (omega arith))) ∙ h n (omega arith)
-
 module _ (d : Netlist) (rank : ℕ → ℕ) (good : Sound d rank) where
   abbrev rs : List Record
   rs = encode d
@@ -108,23 +102,19 @@ module _ (d : Netlist) (rank : ℕ → ℕ) (good : Sound d rank) where
   no-loop : (s : ℕ) → OnLoop rs s → ⊥
   no-loop = ranked-no-loop (d .cells) rank (good .ranked) rs (λ s. getD (d .bits) s 0) encode-length encode-at
 
-  record-passes : (s : ℕ) → s < length rs → firstOf (recordStages rs s) ≡ Pass
-  unfolding recordStages bitOutOfSequence
+  record-passes : (s : ℕ) → s < length rs → RecordPasses rs s
+  unfolding bitOutOfSequence
   record-passes s h =
       let l : s < length (d .cells) = let q : length rs ≡ length (d .cells) = encode-length in omega arith in
       let e : recordIn rs s ≡ sound.recordIn d s = encode-at s l in
-      first-passes (kindStage rs s) _ (ap unknownKind e ∙ known-kind (getD (d .bits) s 0) (cellIn (d .cells) s))
-      ∙ first-passes (fieldStage rs s) _ (ap reservedField e ∙ unused-zero (getD (d .bits) s 0) (cellIn (d .cells) s))
-      ∙ first-passes (bitStage rs s) _ (rw (encode-at (s - 1) (omega arith), e) (good .sequence s l))
-      ∙ first-passes (operandStage rs s) _ (ap (undrivenOperand rs) e ∙ operands-driven s l)
-      ∙ no-stage
-
-  loop-passes : (s : ℕ) → s < length rs → firstOf (loopStages rs s) ≡ Pass
-  unfolding loopStages
-  loop-passes s h = first-passes (loopStage rs s) [] (onLoop-false rs s (no-loop s)) ∙ no-stage
+      record {
+        kind = kind-exactly rs s .1 (ap unknownKind e ∙ known-kind (getD (d .bits) s 0) (cellIn (d .cells) s));
+        fields = field-exactly rs s .1 (ap reservedField e ∙ unused-zero (getD (d .bits) s 0) (cellIn (d .cells) s));
+        bits = bit-exactly rs s .1 (rw (encode-at (s - 1) (omega arith), e) (good .sequence s l));
+        operands = operand-exactly rs s .1 (ap (undrivenOperand rs) e ∙ operands-driven s l);
+      }
 
   pub sound-passes : firstOf (netlistStages (encode d)) ≡ Pass
-  unfolding netlistStages
   sound-passes =
-      later-decides (slotBySlot (recordStages rs) (length rs)) (slotBySlot (loopStages rs) (length rs)) (all-pass (recordStages rs) (length rs) record-passes)
-      ∙ all-pass (loopStages rs) (length rs) loop-passes
+      netlist-exactly rs .1
+      (record { records = records-exactly rs .1 record-passes; loops = loops-exactly rs .1 (λ s l. onLoop-false rs s (no-loop s)) })

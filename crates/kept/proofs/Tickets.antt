@@ -1,7 +1,7 @@
 -- An accepted ticket: its netlist is sound, and its levels are the one valuation by Kleene's tables. Assumes nothing.
 use mathlib.Core.Path.{_≡_, _∙_}
 use mathlib.Core.Bool.{false}
-use mathlib.Core.List.{List, [], _∷_}
+use mathlib.Core.List.{List}
 use Prim.Native.Nat.{ℕ, _/_, _≤_, _<_}
 use native.Mathlib.Omega.{arith}
 use lib.Dec.{ltb}
@@ -13,9 +13,9 @@ use Rattle.cell.specs.Records.{recordAt, recordsOf, cellRecord}
 use Rattle.cell.proofs.Lists.{records-length, records-at}
 use Rattle.loops.proofs.Rank.{rank}
 use Rattle.checking.specs.declared.Verdict.the-variants.{Pass}
-use Rattle.checking.specs.Refusals.{Stage, firstOf}
-use Rattle.checking.specs.Checking.{workStage, lengthStage, sizeStage, netlistStages, checkStages}
-use Rattle.checking.proofs.Stages.{passed-exactly, passes-both}
+use Rattle.checking.specs.Refusals.{firstOf}
+use Rattle.checking.specs.Checking.{netlistStages}
+use Rattle.checking.proofs.Groups.{SizesPass, CheckPasses, sizes-exactly, check-exactly}
 use Rattle.netlist.specs.Netlist.{Netlist, cellIn}
 use Rattle.levels.specs.Evaluate.{levels}
 use Rattle.calls.specs.Calls.{decoded, checkVerdict}
@@ -25,22 +25,22 @@ use Rattle.kept.proofs.Sound.{Sound}
 use Rattle.kept.proofs.Accepted.{netlist-length, netlist-record, accepted-sound}
 
 module _ (words : ℕ) (t : List ℕ) (pass : checkVerdict words t ≡ Pass) where
-  abbrev stages : List Stage
-  stages = workStage words ∷ lengthStage t ∷ sizeStage t ∷ []
+  groups : CheckPasses words t
+  unfolding checkVerdict
+  groups = check-exactly words t .0 pass
 
-  parts : (firstOf stages ≡ Pass) × (firstOf (netlistStages (recordsOf t)) ≡ Pass)
-  unfolding checkVerdict checkStages
-  parts = passes-both stages (netlistStages (recordsOf t)) pass
+  sizes : SizesPass words t
+  sizes = sizes-exactly words t .0 (groups .sizes)
 
   pub ticket-passes : firstOf (netlistStages (recordsOf t)) ≡ Pass
-  ticket-passes = parts .1
+  ticket-passes = groups .netlist
 
   pub ticket-work : ltb words 16384 ≡ false
-  ticket-work = passed-exactly stages .0 (parts .0) 0 (omega arith)
+  ticket-work = sizes .work
 
   few : length (recordsOf t) ≤ 512
   few =
-      let e : length t / 16 ≤ 512 = ltb-false 512 (length t / 16) (passed-exactly stages .0 (parts .0) 2 (omega arith)) in
+      let e : length t / 16 ≤ 512 = ltb-false 512 (length t / 16) (sizes .few) in
       omega (arith, records-length t)
 
   abbrev ticket : Netlist

@@ -15,9 +15,9 @@ use Rattle.netlist.specs.Netlist.{netlistOf}
 use Rattle.design.proofs.Lists.{map-at}
 use Rattle.merge.specs.Words.{Sequenced}
 use Rattle.checking.specs.declared.Verdict.the-variants as verdict
-use Rattle.checking.specs.Refusals.{firstOf, slotBySlot}
-use Rattle.checking.specs.Checking.{follows, outOfSequence, bitOutOfSequence, recordStages, loopStages, netlistStages}
-use Rattle.checking.proofs.Stages.{passes-both, passed-exactly, slots-passed}
+use Rattle.checking.specs.Refusals.{firstOf}
+use Rattle.checking.specs.Checking.{follows, outOfSequence, bitOutOfSequence, netlistStages}
+use Rattle.checking.proofs.Groups.{bit-exactly, records-exactly, netlist-exactly}
 
 bit-or-next : (e o z f : Bool) → (not e && (o || (z || not f))) ≡ false → (e ≡ true) ⊎ (f ≡ true)
 bit-or-next true o z f h = inl refl
@@ -44,11 +44,7 @@ module _ (rs : List Record) (passed : firstOf (netlistStages rs) ≡ verdict.Pas
   bit-of s l = map-at (λ (r : Record). r .bit) rs s 0 (recordOf 0 0 0 0 0 0) l
 
   stage-6 : (s : ℕ) → s < length rs → bitOutOfSequence rs s ≡ false
-  unfolding netlistStages recordStages
-  stage-6 s l =
-      passed-exactly (recordStages rs s) .0
-      (slots-passed (recordStages rs) (length rs) s (passes-both (slotBySlot (recordStages rs) (length rs)) (slotBySlot (loopStages rs) (length rs)) passed .0) l)
-      2 (omega arith)
+  stage-6 s l = bit-exactly rs s .0 (records-exactly rs .0 (netlist-exactly rs .0 passed .records) s l .bits)
 
   pub records-sequenced : Sequenced (netlistOf rs .bits)
   unfolding bitOutOfSequence netlistOf

@@ -21,9 +21,9 @@ use Rattle.loops.specs.Reach.{OnLoop, onLoop}
 use Rattle.loops.proofs.Edges.{edge-field}
 use Rattle.loops.proofs.Rank.{rank, rank-falls, no-loop-below}
 use Rattle.checking.specs.declared.Verdict.the-variants.{Pass}
-use Rattle.checking.specs.Refusals.{firstOf, slotBySlot}
-use Rattle.checking.specs.Checking.{unknownKind, reservedField, bitOutOfSequence, undriven, undrivenField, undrivenOperand, recordStages, loopStages, netlistStages}
-use Rattle.checking.proofs.Stages.{passed-exactly, passes-both, slots-passed}
+use Rattle.checking.specs.Refusals.{firstOf}
+use Rattle.checking.specs.Checking.{unknownKind, reservedField, bitOutOfSequence, undriven, undrivenField, undrivenOperand, netlistStages}
+use Rattle.checking.proofs.Groups.{kind-exactly, field-exactly, bit-exactly, operand-exactly, records-exactly, loops-exactly, netlist-exactly}
 use Rattle.netlist.specs.Shape.{visit, isOutput}
 use Rattle.netlist.specs.Netlist.{cellIn}
 use Rattle.order.proofs.Bits.{output-kind}
@@ -60,20 +60,16 @@ module _ (rs : List Record) where
       pub operands : undrivenOperand rs (recordIn rs s) ≡ false
       pub loops : onLoop rs s ≡ false
 
-    both : (firstOf (slotBySlot (recordStages rs) (length rs)) ≡ Pass) × (firstOf (slotBySlot (loopStages rs) (length rs)) ≡ Pass)
-    unfolding netlistStages
-    both = passes-both (slotBySlot (recordStages rs) (length rs)) (slotBySlot (loopStages rs) (length rs)) pass
-
     pub passed : (s : ℕ) → s < length rs → Passed s
-    unfolding recordStages loopStages
     passed s l =
-        let r = passed-exactly (recordStages rs s) .0 (slots-passed (recordStages rs) (length rs) s (both .0) l) in
+        let p = netlist-exactly rs .0 pass in
+        let r = records-exactly rs .0 (p .records) s l in
         record {
-          kind = r 0 (omega arith);
-          fields = r 1 (omega arith);
-          bits = r 2 (omega arith);
-          operands = r 3 (omega arith);
-          loops = passed-exactly (loopStages rs s) .0 (slots-passed (loopStages rs) (length rs) s (both .1) l) 0 (omega arith);
+          kind = kind-exactly rs s .0 (r .kind);
+          fields = field-exactly rs s .0 (r .fields);
+          bits = bit-exactly rs s .0 (r .bits);
+          operands = operand-exactly rs s .0 (r .operands);
+          loops = loops-exactly rs .0 (p .loops) s l;
         }
 
     pub passed-known : (s : ℕ) → s < length rs → kindOf (recordIn rs s .kind) .known ≡ true

@@ -14,7 +14,7 @@ use Rattle.checking.specs.declared.Verdict.the-variants.{Pass}
 use Rattle.checking.specs.declared.Refusal.the-variants.{SlotsExhausted, ShortReply}
 use Rattle.checking.specs.Refusals.{Stage, firstOf}
 use Rattle.checking.specs.Checking.{workStage, sizeStage, netlistStages, checkStages}
-use Rattle.checking.proofs.Stages.{first-passes}
+use Rattle.checking.proofs.Stages.{one-exactly, passes-both, group-out}
 use Rattle.netlist.specs.Netlist.{Netlist, encode}
 use Rattle.design.specs.Queue.{findNewCell}
 use Rattle.compact.proofs.Lists.{ticket-length}
@@ -33,7 +33,7 @@ use Rattle.rewrite_again.proofs.Again.{rewrite-paired, rewrite-normal}
 use Rattle.rewrite_normal.proofs.Result.{sound-ran}
 use Rattle.repeat.specs.Pairing.{RecordsPaired}
 use Rattle.repeat.specs.Repeat.{laterVerdict}
-use Rattle.repeat.proofs.Stages.{first-same, checked-later}
+use Rattle.repeat.proofs.Stages.{checked-later}
 use Rattle.repeat.proofs.Pairing.{records-paired}
 
 pub record Result (u : List ℕ) : Type 0 where
@@ -117,8 +117,8 @@ module _ (u : List ℕ) (r : Result u) where
       let full : Stage = (ltb 1024 (slotsOf (rewriteRun findNewCell u)), SlotsExhausted) in
       let short : Stage = room reply (rewriteBytes findNewCell u) in
       later words (full ∷ short ∷ [])
-      ∙ first-same (workStage words) (sizeStage u ∷ full ∷ short ∷ []) (sizeStage u ∷ short ∷ [])
-      (λ e. first-same (sizeStage u) (full ∷ short ∷ []) (short ∷ []) (λ f. first-passes full (short ∷ []) (next-slots f)))
+      ∙ group-out (workStage words ∷ sizeStage u ∷ []) (full ∷ []) (short ∷ [])
+      (λ e. one-exactly full .1 (next-slots (one-exactly (sizeStage u) .0 (passes-both (workStage words ∷ []) (sizeStage u ∷ []) e .1))))
       ∙ ap (λ (k : ℕ). firstOf (workStage words ∷ sizeStage u ∷ (ltb (length reply) k, ShortReply) ∷ [])) next-long
 
   pub next-answers : (words : ℕ) (reply : List ℕ) → rewriteAnswer findNewCell words u reply ≡ writtenBy (laterVerdict words u reply) (length u)

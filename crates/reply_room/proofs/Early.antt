@@ -11,7 +11,7 @@ use Rattle.cell.specs.Records.{recordsOf}
 use Rattle.checking.specs.declared.Verdict.{Verdict}
 use Rattle.checking.specs.declared.Verdict.the-variants.{Pass, Refused}
 use Rattle.checking.specs.Refusals.{Stage, figures, firstOf, slotBySlot}
-use Rattle.checking.specs.Checking.{recordStages, loopStages, netlistStages, checkStages}
+use Rattle.checking.specs.Checking.{kindStages, fieldStages, bitStages, operandStages, recordStages, loopStages, sizeGroup, recordGroup, loopGroup, netlistStages, checkStages}
 use Rattle.checking.proofs.Stages.{first-refuses, first-passes, later-decides, earlier-decides}
 use Rattle.calls.specs.Calls.{stimulusStages}
 
@@ -52,21 +52,26 @@ early-then xs ys e f = go (firstOf xs) refl
     go (Refused r) h = subst Other (h ∙ sym (earlier-decides xs ys r h)) (first-early xs e)
 
 -- ---- the stages of the calls
+sizes-early : (words : ℕ) (t : List ℕ) → Early (sizeGroup words t)
+unfolding sizeGroup
+sizes-early words t = (omega arith, (omega arith, (omega arith, tt)))
+
+record-early : (rs : List Record) (s : ℕ) → Early (recordStages rs s)
+unfolding recordStages kindStages fieldStages bitStages operandStages
+record-early rs s =
+    append-early (kindStages rs s ++ fieldStages rs s ++ bitStages rs s) (operandStages rs s)
+    (append-early (kindStages rs s ++ fieldStages rs s) (bitStages rs s)
+    (append-early (kindStages rs s) (fieldStages rs s) (omega arith, tt) (omega arith, tt)) (omega arith, tt)) (omega arith, tt)
+
+netlist-early : (rs : List Record) → Early (netlistStages rs)
+unfolding netlistStages recordGroup loopGroup loopStages
+netlist-early rs =
+    append-early (recordGroup rs) (loopGroup rs) (slots-early (recordStages rs) (record-early rs) (length rs))
+    (slots-early (loopStages rs) (λ s. (omega arith, tt)) (length rs))
+
 pub check-early : (words : ℕ) (t : List ℕ) → Early (checkStages words t)
-unfolding checkStages netlistStages recordStages loopStages
-check-early words t =
-    let rs : List Record = recordsOf t in (
-      omega arith,
-      (
-        omega arith,
-        (
-          omega arith,
-          append-early (slotBySlot (recordStages rs) (length rs)) (slotBySlot (loopStages rs) (length rs))
-              (slots-early (recordStages rs) (λ s. (omega arith, (omega arith, (omega arith, (omega arith, tt))))) (length rs))
-              (slots-early (loopStages rs) (λ s. (omega arith, tt)) (length rs)),
-        ),
-      ),
-    )
+unfolding checkStages
+check-early words t = append-early (sizeGroup words t) (netlistStages (recordsOf t)) (sizes-early words t) (netlist-early (recordsOf t))
 
 pub stimulus-early : (cs : List Cell) (stimulus : List ℕ) → Early (stimulusStages cs stimulus)
 unfolding stimulusStages
