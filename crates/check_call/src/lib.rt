@@ -1,6 +1,5 @@
 // Checking: refusals 1 to 8, or the counts of an accepted ticket.
 use calls::Checked;
-use checking::Refusal;
 use checking::Verdict;
 ghost use mathlib.Core.Path.{_≡_};
 ghost use Prim.Native.Nat.{_/_, _≤_};
@@ -25,11 +24,8 @@ pub fn check(ticket: &[u8], work: &mut [u32]) -> Checked
     ensures { λ r. ⌜ r ≡ checkAnswer (length (now (work .entry))) (now (ticket .entry)) ⌝ }
     ensures { λ _. ⌜ now (work .exit) ≡ cleared (now (work .entry)) ⌝ }
 {
-    if work.len() < 16384 {
-        return Checked::Refused(Refusal::ShortWork);
-    }
-    let v = checking::verdict_of(work, ticket);
-    delivery::wipe(work);
+    let v = delivery::begin(ticket, work);
+    delivery::end(work);
     match v {
         Verdict::Refused(x) => Checked::Refused(x),
         Verdict::Pass => accepted(ticket),

@@ -1,18 +1,14 @@
 // Compacting: inputs, outputs and the whole cells that they reach.
 use calls::Written;
-use checking::Refusal;
 use checking::Verdict;
 ghost use mathlib.Core.Path.{_≡_};
-ghost use mathlib.Core.List.{[], _∷_, _++_};
-ghost use Prim.Native.Nat.{_≤_};
 ghost use lib.ListN.{length};
-ghost use Rattle.checking.specs.Checking.{checkStages};
 ghost use Rattle.calls.specs.Work.{cleared};
-ghost use Rattle.calls.specs.Calls.{room, compactBytes, compactAnswer, compactReply};
-ghost use Rattle.delivery.specs.Delivery.{Writes, Delivers, Passed};
+ghost use Rattle.calls.specs.Calls.{compactBytes, compactAnswer, compactReply};
+ghost use Rattle.delivery.specs.Delivery.{Delivers, Passed};
 
 // 12, or the byte count, for a ticket that passed.
-fn passed(ticket: &[u8], work: &mut [u32], reply: &mut [u8]) -> Written
+fn compacted(ticket: &[u8], work: &mut [u32], reply: &mut [u8]) -> Written
     requires { ⌜ Passed (now ticket) (now work) ⌝ }
     ensures { λ r. ⌜ Delivers (compactBytes (now (ticket .entry))) (now (work .entry)) (now (work .exit)) (now (reply .entry)) (now (reply .exit)) r ⌝ }
 {
@@ -21,27 +17,16 @@ fn passed(ticket: &[u8], work: &mut [u32], reply: &mut [u8]) -> Written
     delivery::deliver(work, n, reply)
 }
 
-// Refusals 2 to 8 and 12, or the byte count, with a work slice that is long enough.
-fn checked(ticket: &[u8], work: &mut [u32], reply: &mut [u8]) -> Written
-    requires { ⌜ 16384 ≤ length (now work) ⌝ }
-    ensures { λ r. ⌜ Writes (checkStages (length (now (work .entry))) (now (ticket .entry)) ++ (room (now (reply .entry)) (compactBytes (now (ticket .entry))) ∷ [])) (compactBytes (now (ticket .entry))) (now (work .entry)) (now (work .exit)) (now (reply .entry)) (now (reply .exit)) r ⌝ }
-{
-    match checking::verdict_of(work, ticket) {
-        Verdict::Refused(x) => Written::Refused(x),
-        Verdict::Pass => passed(ticket, work, reply),
-    }
-}
-
 // Compacts a ticket into the reply: refusals 1 to 8 and 12, or the byte count.
 pub fn compact(ticket: &[u8], work: &mut [u32], reply: &mut [u8]) -> Written
     ensures { λ r. ⌜ r ≡ compactAnswer (length (now (work .entry))) (now (ticket .entry)) (now (reply .entry)) ⌝ }
     ensures { λ _. ⌜ now (reply .exit) ≡ compactReply (length (now (work .entry))) (now (ticket .entry)) (now (reply .entry)) ⌝ }
     ensures { λ _. ⌜ now (work .exit) ≡ cleared (now (work .entry)) ⌝ }
 {
-    if work.len() < 16384 {
-        return Written::Refused(Refusal::ShortWork);
-    }
-    let w = checked(ticket, work, reply);
-    delivery::wipe(work);
+    let w = match delivery::begin(ticket, work) {
+        Verdict::Refused(x) => Written::Refused(x),
+        Verdict::Pass => compacted(ticket, work, reply),
+    };
+    delivery::end(work);
     w
 }

@@ -14,33 +14,20 @@ use Rattle.checking.specs.Refusals.{Stage, firstOf}
 use Rattle.checking.specs.Checking.{workStage, sizeGroup, netlistStages, checkStages}
 use Rattle.checking.proofs.Stages.{first-refuses, later-decides, earlier-decides}
 use Rattle.checking.proofs.Groups.{CheckPasses, sizes-exactly, check-exactly, sizes-decide}
-use Rattle.calls.specs.declared.Written.the-variants as written
-use Rattle.calls.specs.Answers.{writtenBy}
 use Rattle.calls.specs.Calls.{replyAfter}
 use Rattle.delivery.specs.Delivery.{Decides, Passed}
 
 -- 1
-module _ (words : ℕ) (t : List ℕ) (h : words < 16384) where
-  pub short-refused : firstOf (checkStages words t) ≡ Refused ShortWork
-  unfolding sizeGroup
-  short-refused = sizes-decide words t ShortWork (first-refuses (workStage words) _ (lt-ltb words 16384 h))
-
-  module _ (own : List Stage) where
-    pub short-decides : firstOf (checkStages words t ++ own) ≡ Refused ShortWork
-    short-decides = earlier-decides (checkStages words t) own ShortWork short-refused
-
-    pub short-written : (bytes : ℕ) → written.Refused ShortWork ≡ writtenBy (firstOf (checkStages words t ++ own)) bytes
-    short-written bytes = rw short-decides
-
-    pub short-left : (bytes reply : List ℕ) → reply ≡ replyAfter (firstOf (checkStages words t ++ own)) reply bytes
-    short-left bytes reply = rw short-decides
+pub short-refused : (words : ℕ) (t : List ℕ) → words < 16384 → firstOf (checkStages words t) ≡ Refused ShortWork
+unfolding sizeGroup
+short-refused words t h = sizes-decide words t ShortWork (first-refuses (workStage words) _ (lt-ltb words 16384 h))
 
 -- 2 to 8
 module _ (words : ℕ) (t : List ℕ) (v : Verdict) (v-is : v ≡ firstOf (checkStages words t)) (e : v ≡ Pass) where
   groups : CheckPasses words t
   groups = check-exactly words t .0 (sym v-is ∙ e)
 
-  pub passed-few : length t / 16 ≤ 512
+  passed-few : length t / 16 ≤ 512
   passed-few = ltb-false 512 (length t / 16) (sizes-exactly words t .0 (groups .sizes) .few)
 
   passed-netlist : firstOf (netlistStages (recordsOf t)) ≡ Pass

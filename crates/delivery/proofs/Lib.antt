@@ -1,3 +1,4 @@
 pub mod Work
 pub mod Deciding
 pub mod Delivering
+pub mod Shell

@@ -1,5 +1,5 @@
 -- The work slice while it is wiped, and at return. Assumes nothing.
-use mathlib.Core.Path.{_≡_, refl, ap, _∙_}
+use mathlib.Core.Path.{_≡_, refl, sym, ap, _∙_}
 use mathlib.Core.List.{List}
 use Prim.Native.Nat.{ℕ, _+_, _<_, _≤_}
 use native.Mathlib.Omega.{arith}
@@ -37,10 +37,16 @@ wiped-by : (k : ℕ) (ws ws₀ : List ℕ) → drop k ws ≡ drop k ws₀ → wi
 unfolding wiped
 wiped-by k ws ws₀ e = rw e
 
+-- a slice that is too short, and one that is long enough
 pub cleared-short : (ws : List ℕ) → length ws < 16384 → ws ≡ cleared ws
 unfolding cleared
 cleared-short ws h = simp (lt-ltb _ _ h)
 
-pub cleared-long : (ws₀ ws ws′ : List ℕ) → 16384 ≤ length ws₀ → drop 16384 ws ≡ drop 16384 ws₀ → ws′ ≡ wiped 16384 ws → ws′ ≡ cleared ws₀
+pub cleared-long : (ws ws′ : List ℕ) → 16384 ≤ length ws → ws′ ≡ wiped 16384 ws → ws′ ≡ cleared ws
 unfolding cleared
-cleared-long ws₀ ws ws′ h e f = simp (le-ltb _ _ h) (f ∙ wiped-by 16384 ws ws₀ e)
+cleared-long ws ws′ h f = simp (le-ltb _ _ h) f
+
+-- wiping leaves the same of words that differ in the areas alone
+pub cleared-by : (ws₀ ws : List ℕ) → 16384 ≤ length ws₀ → length ws ≡ length ws₀ → drop 16384 ws ≡ drop 16384 ws₀ → cleared ws ≡ cleared ws₀
+cleared-by ws₀ ws h same e =
+    sym (cleared-long ws (wiped 16384 ws) (omega arith) refl) ∙ wiped-by 16384 ws ws₀ e ∙ cleared-long ws₀ (wiped 16384 ws₀) h refl

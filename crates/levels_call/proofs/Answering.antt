@@ -29,11 +29,13 @@ use Rattle.checking.specs.Checking.{checkStages}
 use Rattle.calls.specs.declared.Written.{Written}
 use Rattle.calls.specs.declared.Written.the-variants.{Accepted, Refused}
 use Rattle.calls.specs.Answers.{writtenBy}
-use Rattle.calls.specs.Calls.{put, replyAfter, room, decoded, levelBytes, stimulusStages, levelVerdict, levelAnswer, levelReply}
-use Rattle.delivery.specs.Delivery.{Passed, Writes, Delivers}
+use Rattle.calls.specs.Work.{cleared}
+use Rattle.calls.specs.Calls.{put, room, decoded, levelBytes, stimulusStages, levelVerdict, levelAnswer, levelReply}
+use Rattle.delivery.specs.Delivery.{Passed, Delivers, Begins}
 use Rattle.delivery.proofs.Deciding.{refused-decides, passed-decides}
 use Rattle.delivery.proofs.Delivering.{delivers-none, delivers-all}
-use Rattle.levels_call.specs.Levels.{writtenLevels, levelStages}
+use Rattle.delivery.proofs.Shell.{Steps, called-written}
+use Rattle.levels_call.specs.Levels.{writtenLevels, bitBytes, levelStages, Levels}
 
 -- 12, or the levels
 map-map : (f : Trit → ℕ) (g : ℕ → Trit) (xs : List ℕ) → map f (map g xs) ≡ map (λ x. f (g x)) xs
@@ -42,7 +44,7 @@ map-map f g (x ∷ xs) = ap (λ (l : List ℕ). f (g x) ∷ l) (map-map f g xs)
 
 module _ (n : ℕ) (ws bs reply : List ℕ) (count : ℕ) (e : count ≡ length (ofKind 2 (recordsIn n ws))) where
   abbrev bytes : List ℕ
-  bytes = map byteOf (bitOutputs (cellsIn n ws) bs)
+  bytes = bitBytes n ws bs
 
   bytes-are : bytes ≡ map (λ s. byteOf (getD (bitLevels (cellsIn n ws) (givenLevels (cellsIn n ws) bs)) s Undef)) (ofKind 2 (recordsIn n ws))
   unfolding bitOutputs
@@ -91,33 +93,30 @@ module _ (t ws₀ : List ℕ) (p : Passed t ws₀) (stimulus reply : List ℕ) w
     behind : drop 16384 ws ≡ drop 16384 ws₀
     behind = within-drop 0 visitedAt 16384 ws₀ ws (omega arith) frame
 
-    pub stimulus-refused : (x : Refusal) → v ≡ verdict.Refused x → Writes (levelStages t stimulus reply) result ws₀ ws reply reply (Refused x)
+    pub stimulus-refused : (x : Refusal) → v ≡ verdict.Refused x → Levels t stimulus ws₀ ws reply reply (Refused x)
     unfolding levelStages
     stimulus-refused x e =
         refused-decides (λ y. writtenBy y (length result)) (stimulusStages cells stimulus) (room reply result ∷ []) result ws₀ ws reply v decided behind
         x (Refused x) e refl
 
     pub stimulus-passed : v ≡ verdict.Pass → (ws′ reply′ : List ℕ) (r : Written)
-        → Delivers (map byteOf (bitOutputs (cellsIn n ws) stimulus)) ws ws′ reply reply′ r → Writes (levelStages t stimulus reply) result ws₀ ws′ reply reply′ r
+        → Delivers (bitBytes n ws stimulus) ws ws′ reply reply′ r → Levels t stimulus ws₀ ws′ reply reply′ r
     unfolding levelStages levelBytes
     stimulus-passed e ws′ reply′ r d =
-        let same : map byteOf (bitOutputs (cellsIn n ws) stimulus) ≡ result =
+        let same : bitBytes n ws stimulus ≡ result =
         ap (map byteOf) (ap (λ (cs : List Cell). bitOutputs cs stimulus) same-cells ∙ bit-outputs cells (rank (recordsOf t)) ranked stimulus) in
         passed-decides (λ y. writtenBy y (length result)) (stimulusStages cells stimulus) (room reply result ∷ []) result ws₀ ws reply v decided behind
         ws′ reply′ r (subst (λ (b : List ℕ). Delivers b ws ws′ reply reply′ r) same d) e
 
 -- the stages of the call: 1 to 8 first
-module _ (words : ℕ) (t stimulus reply : List ℕ) where
-  in-turn : firstOf (checkStages words t ++ levelStages t stimulus reply) ≡ levelVerdict words t stimulus reply
-  unfolding levelVerdict levelStages
-  in-turn = ap firstOf (sym (append-assoc (checkStages words t) (stimulusStages (decoded t .cells) stimulus) (room reply (levelBytes t stimulus) ∷ [])))
+in-turn : (words : ℕ) (t stimulus reply : List ℕ) → firstOf (checkStages words t ++ levelStages t stimulus reply) ≡ levelVerdict words t stimulus reply
+unfolding levelVerdict levelStages
+in-turn words t stimulus reply =
+    ap firstOf (sym (append-assoc (checkStages words t) (stimulusStages (decoded t .cells) stimulus) (room reply (levelBytes t stimulus) ∷ [])))
 
-  pub levels-said : (r : Written) → r ≡ writtenBy (firstOf (checkStages words t ++ levelStages t stimulus reply)) (length (levelBytes t stimulus))
-      → r ≡ levelAnswer words t stimulus reply
-  unfolding levelAnswer
-  levels-said r e = e ∙ ap (λ (v : Verdict). writtenBy v (length (levelBytes t stimulus))) in-turn
-
-  pub levels-left : (reply′ : List ℕ) → reply′ ≡ replyAfter (firstOf (checkStages words t ++ levelStages t stimulus reply)) reply (levelBytes t stimulus)
-      → reply′ ≡ levelReply words t stimulus reply
-  unfolding levelReply
-  levels-left reply′ e = e ∙ ap (λ (v : Verdict). replyAfter v reply (levelBytes t stimulus)) in-turn
+-- by the law of the calls
+pub levels-called : (stimulus : List ℕ) {t ws ws₁ ws₂ ws₃ reply reply′ : List ℕ} {v : Verdict} {r : Written} → Begins t ws ws₁ v
+    → Steps (λ y. writtenBy y (length (levelBytes t stimulus))) (levelStages t stimulus reply) (levelBytes t stimulus) ws₁ ws₂ reply reply′ v r → ws₃ ≡ cleared ws₂
+    → (r ≡ levelAnswer (length ws) t stimulus reply) × ((reply′ ≡ levelReply (length ws) t stimulus reply) × (ws₃ ≡ cleared ws))
+unfolding levelAnswer levelReply
+levels-called stimulus {t} {ws} {ws₁} {ws₂} {ws₃} {reply} b s e = rw (← in-turn (length ws) t stimulus reply) (called-written b s e)

@@ -17,12 +17,12 @@ use Rattle.netlist.specs.Areas.{wordRecord, recordsIn}
 use Rattle.levels.specs.Fold.{ofKind, levelsAt}
 use Rattle.levels.proofs.Slots.{of-kind, of-another, slots-more, count-more, count-grows, kind-slots}
 use Rattle.calls.specs.Calls.{put}
-use Rattle.levels_call.specs.Levels.{outputAt, writtenLevels}
+use Rattle.levels_call.specs.Levels.{outputAt, byteAt, putLevel, writtenLevels}
 
 -- one slot, by its kind
 module _ (ws : List ℕ) (s : ℕ) (r : Record) (r-is : r ≡ wordRecord ws s) where
   pub written-level : r .kind ≡ 2 → (n : ℕ) (t : Trit) → t ≡ getD (levelsAt n ws) s Undef → (b : ℕ) → b ≡ byteOf t → (k : ℕ) (reply reply′ : List ℕ)
-      → reply′ ≡ set reply k b → reply′ ≡ cond (outputAt ws s) (set reply k (byteOf (getD (levelsAt n ws) s Undef))) reply
+      → reply′ ≡ set reply k b → reply′ ≡ putLevel n ws s reply k
   written-level e n t f b g k reply reply′ h = rw (of-kind ws s r r-is 2 e) (h ∙ ap (set reply k) (g ∙ ap byteOf f))
 
   pub no-level-written : (r .kind ≡ 2 → ⊥) → (reply new : List ℕ) → reply ≡ cond (outputAt ws s) new reply
@@ -43,30 +43,27 @@ map-snoc f (y ∷ xs) x = ap (λ (l : List ℕ). f y ∷ l) (map-snoc f xs x)
 
 -- the bytes of the slots below s
 module _ (n : ℕ) (ws : List ℕ) where
-  abbrev byteAt : ℕ → ℕ
-  byteAt s = byteOf (getD (levelsAt n ws) s Undef)
-
   unfoldable pub bytesTo : ℕ → List ℕ
-  bytesTo s = map byteAt (those (outputAt ws) (slots s))
+  bytesTo s = map (byteAt n ws) (those (outputAt ws) (slots s))
 
   bytes-length : (s : ℕ) → length (bytesTo s) ≡ length (those (outputAt ws) (slots s))
   unfolding bytesTo
-  bytes-length s = length-map (those (outputAt ws) (slots s)) byteAt
+  bytes-length s = length-map (those (outputAt ws) (slots s)) (byteAt n ws)
 
   bytes-all : bytesTo n ≡ writtenLevels n ws
   unfolding bytesTo writtenLevels
-  bytes-all = ap (map byteAt) (sym (kind-slots n ws 2))
+  bytes-all = ap (map (byteAt n ws)) (sym (kind-slots n ws 2))
 
-  bytes-more : (s : ℕ) → outputAt ws s ≡ true → bytesTo (s + 1) ≡ bytesTo s ++ (byteAt s ∷ [])
+  bytes-more : (s : ℕ) → outputAt ws s ≡ true → bytesTo (s + 1) ≡ bytesTo s ++ (byteAt n ws s ∷ [])
   unfolding bytesTo
   bytes-more s e =
-      ap (map byteAt) (slots-more (outputAt ws) s ∙ ap (λ (b : Bool). those (outputAt ws) (slots s) ++ cond b (s ∷ []) []) e)
-      ∙ map-snoc byteAt (those (outputAt ws) (slots s)) s
+      ap (map (byteAt n ws)) (slots-more (outputAt ws) s ∙ ap (λ (b : Bool). those (outputAt ws) (slots s) ++ cond b (s ∷ []) []) e)
+      ∙ map-snoc (byteAt n ws) (those (outputAt ws) (slots s)) s
 
   bytes-same : (s : ℕ) → outputAt ws s ≡ false → bytesTo (s + 1) ≡ bytesTo s
   unfolding bytesTo
   bytes-same s e =
-      ap (map byteAt) (slots-more (outputAt ws) s ∙ ap (λ (b : Bool). those (outputAt ws) (slots s) ++ cond b (s ∷ []) []) e ∙ append-nil (those (outputAt ws) (slots s)))
+      ap (map (byteAt n ws)) (slots-more (outputAt ws) s ∙ ap (λ (b : Bool). those (outputAt ws) (slots s) ++ cond b (s ∷ []) []) e ∙ append-nil (those (outputAt ws) (slots s)))
 
 -- the loop that writes
 pub record Writing (n : ℕ) (ws reply₀ reply : List ℕ) (s k : ℕ) : Type 0 where
@@ -82,7 +79,7 @@ unfolding tabulate those put bytesTo
 writing-none n ws reply h = record { upto = omega arith; small = omega arith; room = h; counted = refl; written = refl; same = refl }
 
 module _ (n : ℕ) (ws reply₀ reply : List ℕ) (s k : ℕ) (g : Writing n ws reply₀ reply s k) where
-  module _ (l : s < n) (reply′ : List ℕ) (e : reply′ ≡ cond (outputAt ws s) (set reply k (byteOf (getD (levelsAt n ws) s Undef))) reply) where
+  module _ (l : s < n) (reply′ : List ℕ) (e : reply′ ≡ putLevel n ws s reply k) where
     -- there is room for every output's byte
     fits : outputAt ws s ≡ true → length (bytesTo n ws s) < length reply₀
     fits q =

@@ -5,19 +5,15 @@ use checking::Verdict;
 use value::Slot;
 ghost use mathlib.Core.Path.{_≡_};
 ghost use mathlib.Core.Bool.{cond};
-ghost use mathlib.Core.List.{_++_, map};
 ghost use Prim.Native.Nat.{_≤_};
-ghost use lib.ListN.{length, getD, set};
-ghost use Rattle.logic.specs.Levels.{byteOf};
-ghost use Rattle.logic.specs.declared.Trit.the-variants.{Undef};
+ghost use lib.ListN.{length};
 ghost use Rattle.netlist.specs.Areas.{recordsIn};
-ghost use Rattle.levels.specs.Fold.{cellsIn, ofKind, levelsAt, bitOutputs};
+ghost use Rattle.levels.specs.Fold.{cellsIn, ofKind};
 ghost use Rattle.checking.specs.Refusals.{firstOf};
-ghost use Rattle.checking.specs.Checking.{checkStages};
-ghost use Rattle.calls.specs.Calls.{put, stimulusStages, levelBytes, levelAnswer, levelReply};
+ghost use Rattle.calls.specs.Calls.{put, stimulusStages, levelAnswer, levelReply};
 ghost use Rattle.calls.specs.Work.{cleared};
-ghost use Rattle.delivery.specs.Delivery.{Writes, Delivers, Passed};
-ghost use Rattle.levels_call.specs.Levels.{outputAt, writtenLevels, levelStages};
+ghost use Rattle.delivery.specs.Delivery.{Passed};
+ghost use Rattle.levels_call.specs.Levels.{outputAt, putLevel, writtenLevels, DeliversLevels, Levels};
 
 // 10 and 11.
 fn stimulus_verdict(work: &[u32], n: u32, stimulus: &[u8]) -> Verdict
@@ -42,7 +38,7 @@ fn stimulus_verdict(work: &[u32], n: u32, stimulus: &[u8]) -> Verdict
 fn write_at(work: &[u32], n: u32, s: Slot, reply: &mut [u8], k: u32) -> u32
     ensures { λ r. ⌜ r ≡ cond (outputAt (now (work .entry)) (s .0)) 1 0 ⌝ }
     ensures { λ r. ⌜ r ≤ 1 ⌝ }
-    ensures { λ _. ⌜ now (reply .exit) ≡ cond (outputAt (now (work .entry)) (s .0)) (set (now (reply .entry)) k (byteOf (getD (levelsAt n (now (work .entry))) (s .0) Undef))) (now (reply .entry)) ⌝ }
+    ensures { λ _. ⌜ now (reply .exit) ≡ putLevel n (now (work .entry)) (s .0) (now (reply .entry)) k ⌝ }
 {
     let kind = netlist::record_in(work, s).kind;
     if kind == 2 {
@@ -71,7 +67,7 @@ fn write_levels(work: &[u32], n: u32, reply: &mut [u8])
 fn written(work: &mut [u32], n: u32, stimulus: &[u8], reply: &mut [u8]) -> Written
     requires { ⌜ 16384 ≤ length (now work) ⌝ }
     requires { ⌜ n ≤ 512 ⌝ }
-    ensures { λ r. ⌜ Delivers (map byteOf (bitOutputs (cellsIn n (now (work .entry))) (now (stimulus .entry)))) (now (work .entry)) (now (work .exit)) (now (reply .entry)) (now (reply .exit)) r ⌝ }
+    ensures { λ r. ⌜ DeliversLevels n (now (stimulus .entry)) (now (work .entry)) (now (work .exit)) (now (reply .entry)) (now (reply .exit)) r ⌝ }
 {
     let count = levels::count_kind(work, n, 2);
     if reply.len() < (count as usize) {
@@ -83,9 +79,9 @@ fn written(work: &mut [u32], n: u32, stimulus: &[u8], reply: &mut [u8]) -> Writt
 }
 
 // 10 to 12, or the levels of the outputs, for a ticket that passed.
-fn passed(ticket: &[u8], stimulus: &[u8], work: &mut [u32], reply: &mut [u8]) -> Written
+fn evaluated(ticket: &[u8], stimulus: &[u8], work: &mut [u32], reply: &mut [u8]) -> Written
     requires { ⌜ Passed (now ticket) (now work) ⌝ }
-    ensures { λ r. ⌜ Writes (levelStages (now (ticket .entry)) (now (stimulus .entry)) (now (reply .entry))) (levelBytes (now (ticket .entry)) (now (stimulus .entry))) (now (work .entry)) (now (work .exit)) (now (reply .entry)) (now (reply .exit)) r ⌝ }
+    ensures { λ r. ⌜ Levels (now (ticket .entry)) (now (stimulus .entry)) (now (work .entry)) (now (work .exit)) (now (reply .entry)) (now (reply .exit)) r ⌝ }
 {
     let n = (ticket.len() / 16) as u32;
     netlist::load(work, ticket, n);
@@ -95,27 +91,16 @@ fn passed(ticket: &[u8], stimulus: &[u8], work: &mut [u32], reply: &mut [u8]) ->
     }
 }
 
-// 2 to 8 and 10 to 12, or the levels of the outputs, with a work slice that is long enough.
-fn checked(ticket: &[u8], stimulus: &[u8], work: &mut [u32], reply: &mut [u8]) -> Written
-    requires { ⌜ 16384 ≤ length (now work) ⌝ }
-    ensures { λ r. ⌜ Writes (checkStages (length (now (work .entry))) (now (ticket .entry)) ++ levelStages (now (ticket .entry)) (now (stimulus .entry)) (now (reply .entry))) (levelBytes (now (ticket .entry)) (now (stimulus .entry))) (now (work .entry)) (now (work .exit)) (now (reply .entry)) (now (reply .exit)) r ⌝ }
-{
-    match checking::verdict_of(work, ticket) {
-        Verdict::Refused(x) => Written::Refused(x),
-        Verdict::Pass => passed(ticket, stimulus, work, reply),
-    }
-}
-
 // The levels of a ticket's outputs for a stimulus, a byte for each input record in, one for each output record out.
 pub fn levels(ticket: &[u8], stimulus: &[u8], work: &mut [u32], reply: &mut [u8]) -> Written
     ensures { λ r. ⌜ r ≡ levelAnswer (length (now (work .entry))) (now (ticket .entry)) (now (stimulus .entry)) (now (reply .entry)) ⌝ }
     ensures { λ _. ⌜ now (reply .exit) ≡ levelReply (length (now (work .entry))) (now (ticket .entry)) (now (stimulus .entry)) (now (reply .entry)) ⌝ }
     ensures { λ _. ⌜ now (work .exit) ≡ cleared (now (work .entry)) ⌝ }
 {
-    if work.len() < 16384 {
-        return Written::Refused(Refusal::ShortWork);
-    }
-    let r = checked(ticket, stimulus, work, reply);
-    delivery::wipe(work);
-    r
+    let w = match delivery::begin(ticket, work) {
+        Verdict::Refused(x) => Written::Refused(x),
+        Verdict::Pass => evaluated(ticket, stimulus, work, reply),
+    };
+    delivery::end(work);
+    w
 }

@@ -1,8 +1,8 @@
 -- A ticket loaded, merged and delivered. Assumes nothing.
 use mathlib.Core.Path.{_≡_, refl, ap, _∙_}
 use mathlib.Core.Bool.{Bool}
-use mathlib.Core.List.{List, [], _∷_, _++_}
-use Prim.Native.Nat.{ℕ, _<_}
+use mathlib.Core.List.{List, [], _∷_}
+use Prim.Native.Nat.{ℕ}
 use native.Mathlib.Omega.{arith}
 use lib.ListN.{length}
 use Rattle.cell.specs.declared.Record.{Record}
@@ -14,20 +14,19 @@ use Rattle.compact.specs.Compact.{compact}
 use Rattle.design.specs.Words.{netlistIn}
 use Rattle.merge.specs.Merge.{merging, mergedNetlist, merge}
 use Rattle.merge.specs.Words.{Sequenced, MergesNetlist}
-use Rattle.checking.specs.declared.Refusal.the-variants.{ShortWork}
 use Rattle.checking.specs.declared.Verdict.{Verdict}
 use Rattle.checking.specs.declared.Verdict.the-variants as verdict
-use Rattle.checking.specs.Refusals.{Stage, firstOf}
-use Rattle.checking.specs.Checking.{netlistStages, checkStages}
+use Rattle.checking.specs.Refusals.{firstOf}
+use Rattle.checking.specs.Checking.{netlistStages}
 use Rattle.calls.specs.declared.Written.{Written}
 use Rattle.calls.specs.declared.Merged.{Merged}
-use Rattle.calls.specs.declared.Merged.the-variants as merged
 use Rattle.calls.specs.Answers.{writtenBy, mergedBy}
-use Rattle.calls.specs.Calls.{room, encoded, mergeBytes}
-use Rattle.delivery.specs.Delivery.{Delivers}
-use Rattle.delivery.proofs.Deciding.{short-decides}
+use Rattle.calls.specs.Work.{cleared}
+use Rattle.calls.specs.Calls.{room, encoded, mergeBytes, mergeVerdict, mergeAnswer, mergeReply}
+use Rattle.delivery.specs.Delivery.{Delivers, Begins}
 use Rattle.delivery.proofs.Delivering.{delivers-from}
-use Rattle.merge_call.specs.Merge.{withFlag, LoadsMerged, Merges}
+use Rattle.delivery.proofs.Shell.{Steps, called}
+use Rattle.merge_call.specs.Merge.{withFlag, LoadsMerged, mergedAnswer, Merges}
 use Rattle.merge_call.proofs.Sequence.{records-sequenced}
 
 pub loaded-sequenced : (t : List ℕ) (n : ℕ) (ws : List ℕ) → recordsIn n ws ≡ recordsOf t → firstOf (netlistStages (recordsOf t)) ≡ verdict.Pass
@@ -49,7 +48,7 @@ flagged (verdict.Refused x) bytes changed = refl
 
 pub merged-delivers : (t : List ℕ) (n : ℕ) (ws ws₁ ws₂ reply reply′ : List ℕ) (w : Written) (changed : Bool) (r : Merged) → r ≡ withFlag w changed
     → Delivers (encoded (compact (netlistIn n ws₁))) ws₁ ws₂ reply reply′ w → LoadsMerged t n ws ws₁ changed
-    → Merges (room reply (mergeBytes t) ∷ []) t ws ws₂ reply reply′ r
+    → Merges t ws ws₂ reply reply′ r
 unfolding mergeBytes merge
 merged-delivers t n ws ws₁ ws₂ reply reply′ w changed r r-is d m =
     let e : Delivers (mergeBytes t) ws ws₂ reply reply′ w =
@@ -63,6 +62,9 @@ merged-delivers t n ws ws₁ ws₂ reply reply′ w changed r r-is d m =
       rest = e .rest;
     }
 
-pub short-merged : (words : ℕ) (t : List ℕ) → words < 16384 → (own : List Stage) (bytes : ℕ) (changed : Bool)
-    → merged.Refused ShortWork ≡ mergedBy (firstOf (checkStages words t ++ own)) bytes changed
-short-merged words t h own bytes changed = rw (short-decides words t h own)
+-- the three equations, by the law of the calls
+pub merge-called : {t ws ws₁ ws₂ ws₃ reply reply′ : List ℕ} {v : Verdict} {r : Merged} → Begins t ws ws₁ v
+    → Steps (mergedAnswer t) (room reply (mergeBytes t) ∷ []) (mergeBytes t) ws₁ ws₂ reply reply′ v r → ws₃ ≡ cleared ws₂
+    → (r ≡ mergeAnswer (length ws) t reply) × ((reply′ ≡ mergeReply (length ws) t reply) × (ws₃ ≡ cleared ws))
+unfolding mergeVerdict mergeAnswer mergeReply
+merge-called b s e = called b s e

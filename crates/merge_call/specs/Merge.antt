@@ -1,20 +1,20 @@
 -- What the parts of the call of merge tell. Public contracts do not cite this file. Assumes nothing: these are definitions.
 use mathlib.Core.Path.{_≡_}
 use mathlib.Core.Bool.{Bool}
-use mathlib.Core.List.{List}
+use mathlib.Core.List.{List, [], _∷_}
 use Prim.Native.Nat.{ℕ}
 use lib.ListN.{length, drop}
 use Rattle.cell.specs.Limits.{workWords}
 use Rattle.netlist.specs.Areas.{recordsIn}
 use Rattle.netlist.specs.Netlist.{netlistOf}
 use Rattle.merge.specs.Merge.{merging, mergedNetlist, merge}
-use Rattle.checking.specs.Refusals.{Stage}
+use Rattle.checking.specs.declared.Verdict.{Verdict}
 use Rattle.calls.specs.declared.Written.{Written}
 use Rattle.calls.specs.declared.Written.the-variants as written
 use Rattle.calls.specs.declared.Merged.{Merged}
 use Rattle.calls.specs.declared.Merged.the-variants as merged
 use Rattle.calls.specs.Answers.{mergedBy}
-use Rattle.calls.specs.Calls.{decoded, mergeBytes}
+use Rattle.calls.specs.Calls.{room, decoded, mergeBytes}
 use Rattle.delivery.specs.Delivery.{Decides}
 
 -- the answer of a netlist written, and the changed flag
@@ -28,6 +28,10 @@ pub record LoadsMerged (t : List ℕ) (n : ℕ) (ws ws′ : List ℕ) (r : Bool)
   pub flag : r ≡ merge (decoded t) .1
   pub rest : drop workWords ws′ ≡ drop workWords ws
 
--- stages decided, and the answer counts the bytes of the merged ticket and has its flag
-abbrev pub Merges : List Stage → List ℕ → List ℕ → List ℕ → List ℕ → List ℕ → Merged → Type 0
-Merges stages t ws ws′ reply reply′ r = Decides (λ v. mergedBy v (length (mergeBytes t)) (merge (decoded t) .1)) stages (mergeBytes t) ws ws′ reply reply′ r
+-- the answer for a verdict: the byte count of the merged ticket and its flag
+abbrev pub mergedAnswer : List ℕ → Verdict → Merged
+mergedAnswer t v = mergedBy v (length (mergeBytes t)) (merge (decoded t) .1)
+
+-- 12 alone decided answer and reply
+abbrev pub Merges : List ℕ → List ℕ → List ℕ → List ℕ → List ℕ → Merged → Type 0
+Merges t ws ws′ reply reply′ r = Decides (mergedAnswer t) (room reply (mergeBytes t) ∷ []) (mergeBytes t) ws ws′ reply reply′ r

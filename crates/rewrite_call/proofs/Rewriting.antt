@@ -27,8 +27,9 @@ use Rattle.calls.specs.declared.Written.{Written}
 use Rattle.calls.specs.declared.Written.the-variants as written
 use Rattle.calls.specs.Answers.{writtenBy}
 use Rattle.calls.specs.Calls.{room, encoded, rewriteRun, rewriteBytes, rewriteStages}
-use Rattle.delivery.specs.Delivery.{Writes, Delivers}
+use Rattle.delivery.specs.Delivery.{Delivers}
 use Rattle.delivery.proofs.Deciding.{refused-decides, passed-decides}
+use Rattle.rewrite_call.specs.Rewrite.{RewritesTicket}
 
 pub loaded-passed : (t : List ℕ) (n : ℕ) (ws : List ℕ) → recordsIn n ws ≡ recordsOf t → firstOf (netlistStages (recordsOf t)) ≡ verdict.Pass
     → firstOf (netlistStages (recordsIn n ws)) ≡ verdict.Pass
@@ -55,7 +56,7 @@ module _ (n : ℕ) (ws ws₁ : List ℕ) (r : Rewritten) (g : Rewrites n ws ws�
     behind : Within 0 keysFrom ws ws₁ → drop 16384 ws₁ ≡ drop 16384 ws₀
     behind f = within-drop 0 keysFrom 16384 ws ws₁ (omega arith) f ∙ within-drop 0 visitedAt 16384 ws₀ ws (omega arith) frame
 
-    pub writes-none : r ≡ Full → Writes (rewriteStages findNewCell t reply) bytes ws₀ ws₁ reply reply (written.Refused SlotsExhausted)
+    pub writes-none : r ≡ Full → RewritesTicket t ws₀ ws₁ reply reply (written.Refused SlotsExhausted)
     unfolding rewriteStages
     writes-none e =
         let f : Rewrites n ws ws₁ Full = subst (Rewrites n ws ws₁) e g in
@@ -65,7 +66,7 @@ module _ (n : ℕ) (ws ws₁ : List ℕ) (r : Rewritten) (g : Rewrites n ws ws�
 
     pub writes-rewritten : (m : ℕ) (ws₂ reply′ : List ℕ) (w : Written) → r ≡ To m
         → Delivers (encoded (compact (netlistIn m ws₁))) ws₁ ws₂ reply reply′ w
-        → Writes (rewriteStages findNewCell t reply) bytes ws₀ ws₂ reply reply′ w
+        → RewritesTicket t ws₀ ws₂ reply reply′ w
     unfolding rewriteStages rewriteBytes
     writes-rewritten m ws₂ reply′ w e d =
         let f : RewritesTo n m ws ws₁ = subst (Rewrites n ws ws₁) e g in

@@ -1,39 +1,22 @@
 -- `levels_call::levels` meets its contract. Assumes nothing.
-use Rattle.delivery.proofs.Work.{cleared-short, cleared-long}
-use Rattle.delivery.proofs.Deciding.{short-written, short-left}
-use Rattle.levels_call.proofs.Answering.{levels-said, levels-left}
+use mathlib.Core.Logic.{⊎-elim}
 use borrow.Author.Needs.{needs}
+use Rattle.delivery.proofs.Shell.{begins-passed, handed, taken}
+use Rattle.levels_call.proofs.Answering.{levels-called}
 use Rattle.levels_call.proofs.levels.Statement.{statement}
 use Rattle.levels_call.proofs.levels.Tie as tie
-use Rattle.levels_call.proofs.levels.Reads as reads
-use Rattle.levels_call.proofs.levels.Lts as lts
-use Rattle.delivery.proofs.wipe.Reads as wipe-reads
-use Rattle.levels_call.proofs.checked.Reads as checked-reads
 
--- src/lib.rt:116:9
+-- src/lib.rt:95:1
 returns : tie.Need-returns
-returns c = (search (levels-said, short-written), (search (levels-left, short-left), search cleared-short))
+returns c =
+    levels-called _ (c .before .before .before .before .before .before .before .begin .ensures)
+    (⊎-elim (λ w. search handed) (λ w. search taken) (c .before .before .before .before .match .came))
+    (c .before .before .end .ensures)
 
--- src/lib.rt:118:9
-checked-requires : tie.Need-checked-requires
-checked-requires c κs = search needs
-
--- src/lib.rt:119:5
-wipe-requires : tie.Need-wipe-requires
-wipe-requires c κs = search needs
-
--- src/lib.rt:110:1
-same-length : tie.Need-same-length
-same-length c = search needs
-
--- src/lib.rt:110:1
-same-length-2 : tie.Need-same-length-2
-same-length-2 c = search needs
-
--- src/lib.rt:110:1
-returns-2 : tie.Need-returns-2
-returns-2 c = (search levels-said, (search levels-left, search cleared-long))
-
+-- asked in turn: of `begin`, of the two arms, of the call's own step, of `end`; that work and reply keep their lengths; the equations
 pub levels-spec : {M : Type 1} → statement M
 levels-spec =
-    tie.close (tie.spec returns checked-requires wipe-requires same-length same-length-2 returns-2)
+    tie.close
+    (tie.spec (λ c κs. search needs) (λ c. search needs) (λ c. search needs) (λ c κs. search begins-passed) (λ c κs. search needs)
+    (λ c. ⊎-elim (λ w. cc) (λ w. cc) (c .before .before .before .before .match .came))
+    (λ c. ⊎-elim (λ w. cc) (λ w. cc) (c .before .before .before .before .match .came)) returns)

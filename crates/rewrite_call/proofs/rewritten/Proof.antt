@@ -1,10 +1,10 @@
--- `rewrite_call::passed` meets its contract. Assumes nothing.
+-- `rewrite_call::rewritten` meets its contract. Assumes nothing.
 use Rattle.rewrite_call.proofs.Rewriting.{loaded-passed, rewritten-fits, writes-none, writes-rewritten}
 use borrow.Author.Needs.{needs}
-use Rattle.rewrite_call.proofs.passed.Statement.{statement}
-use Rattle.rewrite_call.proofs.passed.Tie as tie
-use Rattle.rewrite_call.proofs.passed.Reads as reads
-use Rattle.rewrite_call.proofs.passed.Lts as lts
+use Rattle.rewrite_call.proofs.rewritten.Statement.{statement}
+use Rattle.rewrite_call.proofs.rewritten.Tie as tie
+use Rattle.rewrite_call.proofs.rewritten.Reads as reads
+use Rattle.rewrite_call.proofs.rewritten.Lts as lts
 use Rattle.delivery.proofs.deliver.Reads as deliver-reads
 use Rattle.netlist.proofs.load.Reads as load-reads
 use Rattle.rewriter.proofs.run.rewrite.Reads as rewrite-reads
@@ -53,8 +53,8 @@ same-length-3 c = search needs
 returns-2 : tie.Need-returns-2
 returns-2 c = search writes-none
 
-pub passed-spec : {M : Type 1} → statement M
-passed-spec =
+pub rewritten-spec : {M : Type 1} → statement M
+rewritten-spec =
     tie.close
     (tie.spec
     cast-n

@@ -1,10 +1,10 @@
--- `merge_call::passed` meets its contract. Assumes nothing.
+-- `merge_call::merged` meets its contract. Assumes nothing.
 use Rattle.merge_call.proofs.Merging.{merged-delivers}
 use borrow.Author.Needs.{needs}
-use Rattle.merge_call.proofs.passed.Statement.{statement}
-use Rattle.merge_call.proofs.passed.Tie as tie
-use Rattle.merge_call.proofs.passed.Reads as reads
-use Rattle.merge_call.proofs.passed.Lts as lts
+use Rattle.merge_call.proofs.merged.Statement.{statement}
+use Rattle.merge_call.proofs.merged.Tie as tie
+use Rattle.merge_call.proofs.merged.Reads as reads
+use Rattle.merge_call.proofs.merged.Lts as lts
 use Rattle.delivery.proofs.deliver.Reads as deliver-reads
 use Rattle.merge_call.proofs.load_merged.Reads as load-merged-reads
 use Rattle.merge_call.proofs.with_flag.Reads as with-flag-reads
@@ -37,8 +37,8 @@ same-length-2 c = search needs
 returns : tie.Need-returns
 returns c = search merged-delivers
 
-pub passed-spec : {M : Type 1} → statement M
-passed-spec =
+pub merged-spec : {M : Type 1} → statement M
+merged-spec =
     tie.close
     (tie.spec
     cast-n

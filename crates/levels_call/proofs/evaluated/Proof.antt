@@ -1,10 +1,10 @@
--- `levels_call::passed` meets its contract. Assumes nothing.
+-- `levels_call::evaluated` meets its contract. Assumes nothing.
 use Rattle.levels_call.proofs.Answering.{stimulus-refused, stimulus-passed}
 use borrow.Author.Needs.{needs}
-use Rattle.levels_call.proofs.passed.Statement.{statement}
-use Rattle.levels_call.proofs.passed.Tie as tie
-use Rattle.levels_call.proofs.passed.Reads as reads
-use Rattle.levels_call.proofs.passed.Lts as lts
+use Rattle.levels_call.proofs.evaluated.Statement.{statement}
+use Rattle.levels_call.proofs.evaluated.Tie as tie
+use Rattle.levels_call.proofs.evaluated.Reads as reads
+use Rattle.levels_call.proofs.evaluated.Lts as lts
 use Rattle.levels_call.proofs.stimulus_verdict.Reads as stimulus-verdict-reads
 use Rattle.levels_call.proofs.written.Reads as written-reads
 use Rattle.netlist.proofs.load.Reads as load-reads
@@ -53,8 +53,8 @@ same-length-3 c = search needs
 returns-2 : tie.Need-returns-2
 returns-2 c = search stimulus-passed
 
-pub passed-spec : {M : Type 1} → statement M
-passed-spec =
+pub evaluated-spec : {M : Type 1} → statement M
+evaluated-spec =
     tie.close
     (tie.spec
     cast-n
