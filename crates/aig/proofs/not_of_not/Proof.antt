@@ -7,23 +7,23 @@ use Rattle.aig.proofs.not_of_not.Reads as reads
 use Rattle.aig.proofs.not_of_not.Lts as lts
 use Rattle.aig.proofs.source.not_in.Reads as not-in-reads
 
--- src/lib.rt:31:11
+-- src/lib.rt
 not-in-requires : tie.Need-not-in-requires
 not-in-requires c κs = search needs
 
--- src/lib.rt:32:22
+-- src/lib.rt
 enum-known-v : tie.Need-enum-known-v
 enum-known-v c = search needs
 
--- src/lib.rt:33:28
+-- src/lib.rt
 enum-told : tie.Need-enum-told
 enum-told c = search needs
 
--- src/lib.rt:28:1
+-- src/lib.rt
 returns : tie.Need-returns
 returns c = of-not _ _ _ _ _ (c .before .before .before .not-in .ensures) (c .before .v .given .1) refl
 
--- src/lib.rt:28:1
+-- src/lib.rt
 returns-2 : tie.Need-returns-2
 returns-2 c = no-not _ _ _ (c .before .before .not-in .ensures) (c .enum-told .given .1)
 

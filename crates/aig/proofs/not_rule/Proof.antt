@@ -8,38 +8,38 @@ use Rattle.aig.proofs.not_rule.Lts as lts
 use Rattle.aig.proofs.not_of_not.Reads as not-of-not-reads
 use Rattle.value.proofs.net_eq.Reads as net-eq-reads
 
--- src/lib.rt:41:8
+-- src/lib.rt
 net-eq-requires : tie.Need-net-eq-requires
 net-eq-requires c κs = search needs
 
--- src/lib.rt:42:9
+-- src/lib.rt
 returns : tie.Need-returns
 unfolding notRule
 returns c = search (held, failed)
 
--- src/lib.rt:44:8
+-- src/lib.rt
 net-eq-requires-2 : tie.Need-net-eq-requires-2
 net-eq-requires-2 c κs = search needs
 
--- src/lib.rt:45:9
+-- src/lib.rt
 returns-2 : tie.Need-returns-2
 unfolding notRule
 returns-2 c = search (held, failed)
 
--- src/lib.rt:47:8
+-- src/lib.rt
 net-eq-requires-3 : tie.Need-net-eq-requires-3
 net-eq-requires-3 c κs = search needs
 
--- src/lib.rt:48:9
+-- src/lib.rt
 returns-3 : tie.Need-returns-3
 unfolding notRule
 returns-3 c = search (held, failed)
 
--- src/lib.rt:50:5
+-- src/lib.rt
 not-of-not-requires : tie.Need-not-of-not-requires
 not-of-not-requires c κs = search needs
 
--- src/lib.rt:38:1
+-- src/lib.rt
 returns-4 : tie.Need-returns-4
 unfolding notRule
 returns-4 c = search (held, failed)

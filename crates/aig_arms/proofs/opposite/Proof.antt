@@ -6,15 +6,15 @@ use Rattle.aig_arms.proofs.opposite.Lts as lts
 use Rattle.value.proofs.ControlNet.not.Reads as not-reads
 use Rattle.value.proofs.control_eq.Reads as control-eq-reads
 
--- src/lib.rt:30:26
+-- src/lib.rt
 not-requires : tie.Need-not-requires
 not-requires c κs = search needs
 
--- src/lib.rt:30:5
+-- src/lib.rt
 control-eq-requires : tie.Need-control-eq-requires
 control-eq-requires c κs = search needs
 
--- src/lib.rt:27:1
+-- src/lib.rt
 returns : tie.Need-returns
 returns c = rw (c .control-eq .ensures, c .before .not .ensures)
 

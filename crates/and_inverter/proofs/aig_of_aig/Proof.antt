@@ -8,23 +8,23 @@ use Rattle.aig_arms.proofs.and.and_with_either.Reads as and-with-either-reads
 use Rattle.aig_arms.proofs.nand.nand_with_either.Reads as nand-with-either-reads
 use Rattle.value.proofs.ControlNet.is_positive.Reads as is-positive-reads
 
--- src/lib.rt:57:8
+-- src/lib.rt
 is-positive-requires : tie.Need-is-positive-requires
 is-positive-requires c κs = search needs
 
--- src/lib.rt:58:9
+-- src/lib.rt
 and-with-either-requires : tie.Need-and-with-either-requires
 and-with-either-requires c κs = search needs
 
--- src/lib.rt:58:9
+-- src/lib.rt
 returns : tie.Need-returns
 returns c = search positive
 
--- src/lib.rt:60:5
+-- src/lib.rt
 nand-with-either-requires : tie.Need-nand-with-either-requires
 nand-with-either-requires c κs = search needs
 
--- src/lib.rt:48:1
+-- src/lib.rt
 returns-2 : tie.Need-returns-2
 returns-2 c = search negative
 

@@ -11,46 +11,46 @@ use Rattle.normalize.proofs.from_control.Reads as from-control-reads
 use Rattle.value.proofs.ControlNet.is_always.Reads as is-always-reads
 use Rattle.value.proofs.control_eq.Reads as control-eq-reads
 
--- src/lib.rt:86:8
+-- src/lib.rt
 control-eq-requires : tie.Need-control-eq-requires
 control-eq-requires c κs = search needs
 
--- src/lib.rt:87:9
+-- src/lib.rt
 from-control-requires : tie.Need-from-control-requires
 from-control-requires c κs = search needs
 
--- src/lib.rt:87:9
+-- src/lib.rt
 returns : tie.Need-returns
 unfolding aigOrder
 returns c = search (held, control-applies)
 
--- src/lib.rt:89:8
+-- src/lib.rt
 contradicts-requires : tie.Need-contradicts-requires
 contradicts-requires c κs = search needs
 
--- src/lib.rt:90:9
+-- src/lib.rt
 returns-2 : tie.Need-returns-2
 unfolding aigOrder
 returns-2 c = search (failed, held)
 
--- src/lib.rt:92:8
+-- src/lib.rt
 is-always-requires : tie.Need-is-always-requires
 is-always-requires c κs = search needs
 
--- src/lib.rt:93:9
+-- src/lib.rt
 from-control-requires-2 : tie.Need-from-control-requires-2
 from-control-requires-2 c κs = search needs
 
--- src/lib.rt:93:9
+-- src/lib.rt
 returns-3 : tie.Need-returns-3
 unfolding aigOrder
 returns-3 c = search (failed, held, control-applies)
 
--- src/lib.rt:95:5
+-- src/lib.rt
 aig-of-gate-requires : tie.Need-aig-of-gate-requires
 aig-of-gate-requires c κs = search needs
 
--- src/lib.rt:83:1
+-- src/lib.rt
 returns-4 : tie.Need-returns-4
 unfolding aigOrder
 returns-4 c = search failed

@@ -8,24 +8,24 @@ use Rattle.and_inverter.proofs.aig_rule.Lts as lts
 use Rattle.and_inverter.proofs.aig_order.Reads as aig-order-reads
 use Rattle.normalize.proofs.applies.Reads as applies-reads
 
--- src/lib.rt:102:9
+-- src/lib.rt
 aig-order-requires : tie.Need-aig-order-requires
 aig-order-requires c κs = search needs
 
--- src/lib.rt:103:8
+-- src/lib.rt
 applies-requires : tie.Need-applies-requires
 applies-requires c κs = search needs
 
--- src/lib.rt:104:9
+-- src/lib.rt
 returns : tie.Need-returns
 unfolding aigRule
 returns c = search first
 
--- src/lib.rt:106:5
+-- src/lib.rt
 aig-order-requires-2 : tie.Need-aig-order-requires-2
 aig-order-requires-2 c κs = search needs
 
--- src/lib.rt:99:1
+-- src/lib.rt
 returns-2 : tie.Need-returns-2
 unfolding aigRule
 returns-2 c = search second

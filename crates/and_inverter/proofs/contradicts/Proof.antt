@@ -7,19 +7,19 @@ use Rattle.aig_arms.proofs.opposite.Reads as opposite-reads
 use Rattle.logic.proofs.either.Reads as either-reads
 use Rattle.value.proofs.ControlNet.is_always.Reads as is-always-reads
 
--- src/lib.rt:37:19
+-- src/lib.rt
 opposite-requires : tie.Need-opposite-requires
 opposite-requires c κs = search needs
 
--- src/lib.rt:37:35
+-- src/lib.rt
 is-always-requires : tie.Need-is-always-requires
 is-always-requires c κs = search needs
 
--- src/lib.rt:37:5
+-- src/lib.rt
 either-requires : tie.Need-either-requires
 either-requires c κs = search needs
 
--- src/lib.rt:34:1
+-- src/lib.rt
 returns : tie.Need-returns
 returns c = rw (c .either .ensures, c .before .is-always .ensures, c .before .before .opposite .ensures)
 

@@ -6,15 +6,15 @@ use Rattle.cell.proofs.byte.Tie as tie
 use Rattle.cell.proofs.byte.Reads as reads
 use Rattle.cell.proofs.byte.Lts as lts
 
--- src/lib.rt:72:22
+-- src/lib.rt
 shared-slice-read-result : tie.Need-shared-slice-read-result
 shared-slice-read-result c = search needs
 
--- src/lib.rt:69:1
+-- src/lib.rt
 returns : tie.Need-returns
 returns c = search needs
 
--- src/lib.rt:69:1
+-- src/lib.rt
 returns-2 : tie.Need-returns-2
 returns-2 c = sym (List·getD-eq-default (c .before .args .s .now) 0 (c .if1 .left))
 

@@ -4,19 +4,19 @@ use Rattle.cell.proofs.edge_of.Tie as tie
 use Rattle.cell.proofs.edge_of.Reads as reads
 use Rattle.cell.proofs.edge_of.Lts as lts
 
--- src/lib.rt:262:29
+-- src/lib.rt
 enum-told : tie.Need-enum-told
 enum-told c = search needs
 
--- src/lib.rt:263:22
+-- src/lib.rt
 enum-known-d : tie.Need-enum-known-d
 enum-known-d c = search needs
 
--- src/lib.rt:258:1
+-- src/lib.rt
 returns : tie.Need-returns
 returns c = search needs
 
--- src/lib.rt:258:1
+-- src/lib.rt
 returns-2 : tie.Need-returns-2
 returns-2 c = cc
 

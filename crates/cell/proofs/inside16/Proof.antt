@@ -6,35 +6,35 @@ use Rattle.cell.proofs.inside16.Reads as reads
 use Rattle.cell.proofs.inside16.Lts as lts
 use Rattle.cell.proofs.inside.Reads as inside-reads
 
--- src/lib.rt:117:15
+-- src/lib.rt
 inside-requires : tie.Need-inside-requires
 inside-requires c κs = search needs
 
--- src/lib.rt:117:15
+-- src/lib.rt
 cast-low : tie.Need-cast-low
 cast-low c = search needs
 
--- src/lib.rt:118:26
+-- src/lib.rt
 add-inside : tie.Need-add-inside
 add-inside c = search needs
 
--- src/lib.rt:118:16
+-- src/lib.rt
 inside-requires-2 : tie.Need-inside-requires-2
 inside-requires-2 c κs = search needs
 
--- src/lib.rt:118:16
+-- src/lib.rt
 cast-high : tie.Need-cast-high
 cast-high c = search needs
 
--- src/lib.rt:119:11
+-- src/lib.rt
 mul-result : tie.Need-mul-result
 mul-result c = search needs
 
--- src/lib.rt:119:5
+-- src/lib.rt
 add-result : tie.Need-add-result
 add-result c = search needs
 
--- src/lib.rt:113:1
+-- src/lib.rt
 returns : tie.Need-returns
 unfolding word16
 returns c = cc

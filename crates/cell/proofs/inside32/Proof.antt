@@ -7,75 +7,75 @@ use Rattle.cell.proofs.inside32.Lts as lts
 use Rattle.cell.proofs.inside.Reads as inside-reads
 use Rattle.cell.proofs.wide.Reads as wide-reads
 
--- src/lib.rt:126:19
+-- src/lib.rt
 inside-requires : tie.Need-inside-requires
 inside-requires c κs = search needs
 
--- src/lib.rt:126:9
+-- src/lib.rt
 wide-requires : tie.Need-wide-requires
 wide-requires c κs = search needs
 
--- src/lib.rt:127:29
+-- src/lib.rt
 add-inside : tie.Need-add-inside
 add-inside c = search needs
 
--- src/lib.rt:127:19
+-- src/lib.rt
 inside-requires-2 : tie.Need-inside-requires-2
 inside-requires-2 c κs = search needs
 
--- src/lib.rt:127:9
+-- src/lib.rt
 wide-requires-2 : tie.Need-wide-requires-2
 wide-requires-2 c κs = search needs
 
--- src/lib.rt:128:29
+-- src/lib.rt
 add-inside-2 : tie.Need-add-inside-2
 add-inside-2 c = search needs
 
--- src/lib.rt:128:19
+-- src/lib.rt
 inside-requires-3 : tie.Need-inside-requires-3
 inside-requires-3 c κs = search needs
 
--- src/lib.rt:128:9
+-- src/lib.rt
 wide-requires-3 : tie.Need-wide-requires-3
 wide-requires-3 c κs = search needs
 
--- src/lib.rt:129:29
+-- src/lib.rt
 add-inside-3 : tie.Need-add-inside-3
 add-inside-3 c = search needs
 
--- src/lib.rt:129:19
+-- src/lib.rt
 inside-requires-4 : tie.Need-inside-requires-4
 inside-requires-4 c κs = search needs
 
--- src/lib.rt:129:9
+-- src/lib.rt
 wide-requires-4 : tie.Need-wide-requires-4
 wide-requires-4 c κs = search needs
 
--- src/lib.rt:130:34
+-- src/lib.rt
 mul-result : tie.Need-mul-result
 mul-result c = search needs
 
--- src/lib.rt:130:29
+-- src/lib.rt
 add-result : tie.Need-add-result
 add-result c = search needs
 
--- src/lib.rt:130:22
+-- src/lib.rt
 mul-result-2 : tie.Need-mul-result-2
 mul-result-2 c = search needs
 
--- src/lib.rt:130:17
+-- src/lib.rt
 add-result-2 : tie.Need-add-result-2
 add-result-2 c = search needs
 
--- src/lib.rt:130:10
+-- src/lib.rt
 mul-result-3 : tie.Need-mul-result-3
 mul-result-3 c = search needs
 
--- src/lib.rt:130:5
+-- src/lib.rt
 add-result-3 : tie.Need-add-result-3
 add-result-3 c = search needs
 
--- src/lib.rt:122:1
+-- src/lib.rt
 returns : tie.Need-returns
 unfolding word32
 returns c = cc

@@ -6,11 +6,11 @@ use Rattle.cell.proofs.is_comb_edge.Reads as reads
 use Rattle.cell.proofs.is_comb_edge.Lts as lts
 use Rattle.cell.proofs.is_operand.Reads as is-operand-reads
 
--- src/lib.rt:255:5
+-- src/lib.rt
 is-operand-requires : tie.Need-is-operand-requires
 is-operand-requires c κs = search needs
 
--- src/lib.rt:252:1
+-- src/lib.rt
 returns : tie.Need-returns
 unfolding isCombEdge
 returns c = cc

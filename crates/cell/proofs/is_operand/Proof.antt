@@ -8,19 +8,19 @@ use Rattle.kinds.proofs.is_operand_use.Reads as is-operand-use-reads
 use Rattle.kinds.proofs.kind_of.Reads as kind-of-reads
 use Rattle.kinds.proofs.use_of.Reads as use-of-reads
 
--- src/lib.rt:248:27
+-- src/lib.rt
 kind-of-requires : tie.Need-kind-of-requires
 kind-of-requires c κs = search needs
 
--- src/lib.rt:248:20
+-- src/lib.rt
 use-of-requires : tie.Need-use-of-requires
 use-of-requires c κs = search needs
 
--- src/lib.rt:248:5
+-- src/lib.rt
 is-operand-use-requires : tie.Need-is-operand-use-requires
 is-operand-use-requires c κs = search needs
 
--- src/lib.rt:245:1
+-- src/lib.rt
 returns : tie.Need-returns
 unfolding isOperand
 returns c = cc

@@ -6,23 +6,23 @@ use Rattle.cell.proofs.put.Tie as tie
 use Rattle.cell.proofs.put.Reads as reads
 use Rattle.cell.proofs.put.Lts as lts
 
--- src/lib.rt:37:9
+-- src/lib.rt
 mul-s : tie.Need-mul-s
 mul-s c = search needs
 
--- src/lib.rt:37:9
+-- src/lib.rt
 slice-write-s : tie.Need-slice-write-s
 slice-write-s c = search needs
 
--- src/lib.rt:33:1
+-- src/lib.rt
 same-length : tie.Need-same-length
 same-length c = search needs
 
--- src/lib.rt:33:1
+-- src/lib.rt
 returns : tie.Need-returns
 returns c = search needs
 
--- src/lib.rt:33:1
+-- src/lib.rt
 returns-2 : tie.Need-returns-2
 returns-2 c = sym (set-out _ _ _ (c .if1 .left))
 

@@ -6,19 +6,19 @@ use Rattle.cell.proofs.put_byte.Tie as tie
 use Rattle.cell.proofs.put_byte.Reads as reads
 use Rattle.cell.proofs.put_byte.Lts as lts
 
--- src/lib.rt:80:9
+-- src/lib.rt
 slice-write-s : tie.Need-slice-write-s
 slice-write-s c = search needs
 
--- src/lib.rt:76:1
+-- src/lib.rt
 same-length : tie.Need-same-length
 same-length c = search needs
 
--- src/lib.rt:76:1
+-- src/lib.rt
 returns : tie.Need-returns
 returns c = search needs
 
--- src/lib.rt:76:1
+-- src/lib.rt
 returns-2 : tie.Need-returns-2
 returns-2 c = sym (set-out _ _ _ (c .if1 .left))
 

@@ -6,19 +6,19 @@ use Rattle.cell.proofs.word.Tie as tie
 use Rattle.cell.proofs.word.Reads as reads
 use Rattle.cell.proofs.word.Lts as lts
 
--- src/lib.rt:29:22
+-- src/lib.rt
 mul-result : tie.Need-mul-result
 mul-result c = search needs
 
--- src/lib.rt:29:22
+-- src/lib.rt
 shared-slice-read-result : tie.Need-shared-slice-read-result
 shared-slice-read-result c = search needs
 
--- src/lib.rt:26:1
+-- src/lib.rt
 returns : tie.Need-returns
 returns c = search needs
 
--- src/lib.rt:26:1
+-- src/lib.rt
 returns-2 : tie.Need-returns-2
 returns-2 c = sym (List·getD-eq-default (c .before .args .s .now) 0 (c .if1 .left))
 

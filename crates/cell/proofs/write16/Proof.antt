@@ -8,31 +8,31 @@ use Rattle.cell.proofs.write16.Reads as reads
 use Rattle.cell.proofs.write16.Lts as lts
 use Rattle.cell.proofs.put_byte.Reads as put-byte-reads
 
--- src/lib.rt:130:20
+-- src/lib.rt
 cast-put-byte : tie.Need-cast-put-byte
 cast-put-byte c = search needs
 
--- src/lib.rt:130:5
+-- src/lib.rt
 put-byte-requires : tie.Need-put-byte-requires
 put-byte-requires c κs = search needs
 
--- src/lib.rt:131:17
+-- src/lib.rt
 add-put-byte : tie.Need-add-put-byte
 add-put-byte c = search needs
 
--- src/lib.rt:131:24
+-- src/lib.rt
 cast-put-byte-2 : tie.Need-cast-put-byte-2
 cast-put-byte-2 c = search needs
 
--- src/lib.rt:131:5
+-- src/lib.rt
 put-byte-requires-2 : tie.Need-put-byte-requires-2
 put-byte-requires-2 c κs = search needs
 
--- src/lib.rt:126:1
+-- src/lib.rt
 same-length : tie.Need-same-length
 same-length c = search needs
 
--- src/lib.rt:126:1
+-- src/lib.rt
 returns : tie.Need-returns
 unfolding store16
 returns c = cc

@@ -8,55 +8,55 @@ use Rattle.cell.proofs.write32.Reads as reads
 use Rattle.cell.proofs.write32.Lts as lts
 use Rattle.cell.proofs.put_byte.Reads as put-byte-reads
 
--- src/lib.rt:138:20
+-- src/lib.rt
 cast-put-byte : tie.Need-cast-put-byte
 cast-put-byte c = search needs
 
--- src/lib.rt:138:5
+-- src/lib.rt
 put-byte-requires : tie.Need-put-byte-requires
 put-byte-requires c κs = search needs
 
--- src/lib.rt:139:17
+-- src/lib.rt
 add-put-byte : tie.Need-add-put-byte
 add-put-byte c = search needs
 
--- src/lib.rt:139:24
+-- src/lib.rt
 cast-put-byte-2 : tie.Need-cast-put-byte-2
 cast-put-byte-2 c = search needs
 
--- src/lib.rt:139:5
+-- src/lib.rt
 put-byte-requires-2 : tie.Need-put-byte-requires-2
 put-byte-requires-2 c κs = search needs
 
--- src/lib.rt:140:17
+-- src/lib.rt
 add-put-byte-2 : tie.Need-add-put-byte-2
 add-put-byte-2 c = search needs
 
--- src/lib.rt:140:24
+-- src/lib.rt
 cast-put-byte-3 : tie.Need-cast-put-byte-3
 cast-put-byte-3 c = search needs
 
--- src/lib.rt:140:5
+-- src/lib.rt
 put-byte-requires-3 : tie.Need-put-byte-requires-3
 put-byte-requires-3 c κs = search needs
 
--- src/lib.rt:141:17
+-- src/lib.rt
 add-put-byte-3 : tie.Need-add-put-byte-3
 add-put-byte-3 c = search needs
 
--- src/lib.rt:141:24
+-- src/lib.rt
 cast-put-byte-4 : tie.Need-cast-put-byte-4
 cast-put-byte-4 c = search needs
 
--- src/lib.rt:141:5
+-- src/lib.rt
 put-byte-requires-4 : tie.Need-put-byte-requires-4
 put-byte-requires-4 c κs = search needs
 
--- src/lib.rt:134:1
+-- src/lib.rt
 same-length : tie.Need-same-length
 same-length c = search needs
 
--- src/lib.rt:134:1
+-- src/lib.rt
 returns : tie.Need-returns
 unfolding store32
 returns c = cc

@@ -5,15 +5,15 @@ use borrow.Author.Needs.{needs}
 use Rattle.check_call.proofs.check.Statement.{statement}
 use Rattle.check_call.proofs.check.Tie as tie
 
--- src/lib.rt:31:26
+-- src/lib.rt
 accepted-requires : tie.Need-accepted-requires
 accepted-requires c κs = search checked-few
 
--- src/lib.rt:23:1
+-- src/lib.rt
 returns : tie.Need-returns
 returns c = (search checked-refused, search begins-ends)
 
--- src/lib.rt:23:1
+-- src/lib.rt
 returns-2 : tie.Need-returns-2
 returns-2 c = (search checked-accepted, search begins-ends)
 

@@ -7,27 +7,27 @@ use Rattle.check_call.proofs.tell_checked.Lts as lts
 use Rattle.delivery.proofs.accept.Reads as accept-reads
 use Rattle.delivery.proofs.refuse.Reads as refuse-reads
 
--- src/lib.rt:45:27
+-- src/lib.rt
 enum-known-k : tie.Need-enum-known-k
 enum-known-k c = search needs
 
--- src/lib.rt:45:46
+-- src/lib.rt
 accept-requires : tie.Need-accept-requires
 accept-requires c κs = search needs
 
--- src/lib.rt:46:26
+-- src/lib.rt
 enum-known-k-2 : tie.Need-enum-known-k-2
 enum-known-k-2 c = search needs
 
--- src/lib.rt:46:32
+-- src/lib.rt
 refuse-requires : tie.Need-refuse-requires
 refuse-requires c κs = search needs
 
--- src/lib.rt:40:1
+-- src/lib.rt
 returns : tie.Need-returns
 returns c = rw (c .before .before .before .k .given .1) (c .accept .ensures)
 
--- src/lib.rt:40:1
+-- src/lib.rt
 returns-2 : tie.Need-returns-2
 returns-2 c = rw (c .before .before .before .k2 .given .1) (c .refuse .ensures)
 

@@ -8,35 +8,35 @@ use Rattle.kinds.proofs.kind_of.Reads as kind-of-reads
 use Rattle.logic.proofs.both.Reads as both-reads
 use Rattle.logic.proofs.either.Reads as either-reads
 
--- src/lib.rt:102:17
+-- src/lib.rt
 cast-next : tie.Need-cast-next
 cast-next c = search needs
 
--- src/lib.rt:102:16
+-- src/lib.rt
 add-next : tie.Need-add-next
 add-next c = search needs
 
--- src/lib.rt:103:18
+-- src/lib.rt
 kind-of-requires : tie.Need-kind-of-requires
 kind-of-requires c κs = search needs
 
--- src/lib.rt:105:48
+-- src/lib.rt
 cast-both : tie.Need-cast-both
 cast-both c = search needs
 
--- src/lib.rt:105:9
+-- src/lib.rt
 both-requires : tie.Need-both-requires
 both-requires c κs = search needs
 
--- src/lib.rt:106:9
+-- src/lib.rt
 either-requires : tie.Need-either-requires
 either-requires c κs = search needs
 
--- src/lib.rt:104:5
+-- src/lib.rt
 both-requires-2 : tie.Need-both-requires-2
 both-requires-2 c κs = search needs
 
--- src/lib.rt:99:1
+-- src/lib.rt
 returns : tie.Need-returns
 unfolding follows
 returns c = cc

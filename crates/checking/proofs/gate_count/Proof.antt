@@ -18,35 +18,35 @@ Inv-loop t n s₀ sum₀ s sum = Counting t n s sum
 abbrev μ-loop : tie.MeasureT-loop
 μ-loop t n s₀ sum₀ s sum = n - s
 
--- src/lib.rt:215:5
+-- src/lib.rt
 loop-holds : tie.Need-loop-holds Inv-loop μ-loop
 loop-holds c = search counts-none
 
--- src/lib.rt:216:30
+-- src/lib.rt
 kind-at-requires : tie.Need-kind-at-requires Inv-loop μ-loop
 kind-at-requires c κs = omega arith
 
--- src/lib.rt:216:16
+-- src/lib.rt
 kind-of-requires : tie.Need-kind-of-requires Inv-loop μ-loop
 kind-of-requires c κs = search needs
 
--- src/lib.rt:216:9
+-- src/lib.rt
 add-sum : tie.Need-add-sum Inv-loop μ-loop
 add-sum c = omega (arith, gates-one (c .before .before .kind-at .result), ap (λ (x : Kind). x .gates) (c .before .kind-of .ensures))
 
--- src/lib.rt:217:9
+-- src/lib.rt
 add-s : tie.Need-add-s Inv-loop μ-loop
 add-s c = omega arith
 
--- src/lib.rt:215:5
+-- src/lib.rt
 loop-less : tie.Need-loop-less Inv-loop μ-loop
 loop-less c = omega arith
 
--- src/lib.rt:215:5
+-- src/lib.rt
 loop-again : tie.Need-loop-again Inv-loop μ-loop
 loop-again c = search counts-more
 
--- src/lib.rt:208:1
+-- src/lib.rt
 returns : tie.Need-returns Inv-loop μ-loop
 returns c = search counts-all
 

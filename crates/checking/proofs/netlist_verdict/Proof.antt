@@ -7,47 +7,47 @@ use Rattle.checking.proofs.netlist_verdict.Lts as lts
 use Rattle.checking.proofs.records_verdict.Reads as records-verdict-reads
 use Rattle.loops.proofs.find_loop.Reads as find-loop-reads
 
--- src/lib.rt:218:11
+-- src/lib.rt
 records-verdict-requires : tie.Need-records-verdict-requires
 records-verdict-requires c κs = search needs
 
--- src/lib.rt:219:26
+-- src/lib.rt
 enum-known-x : tie.Need-enum-known-x
 enum-known-x c = search needs
 
--- src/lib.rt:220:49
+-- src/lib.rt
 enum-told : tie.Need-enum-told
 enum-told c = search needs
 
--- src/lib.rt:220:32
+-- src/lib.rt
 find-loop-requires : tie.Need-find-loop-requires
 find-loop-requires c κs = search searchable
 
--- src/lib.rt:221:23
+-- src/lib.rt
 enum-known-s : tie.Need-enum-known-s
 enum-known-s c = search needs
 
--- src/lib.rt:222:31
+-- src/lib.rt
 enum-told-2 : tie.Need-enum-told-2
 enum-told-2 c = search needs
 
--- src/lib.rt:211:1
+-- src/lib.rt
 returns : tie.Need-returns
 returns c = (search records-refuse, search needs)
 
--- src/lib.rt:211:1
+-- src/lib.rt
 same-length : tie.Need-same-length
 same-length c = search needs
 
--- src/lib.rt:211:1
+-- src/lib.rt
 returns-2 : tie.Need-returns-2
 returns-2 c = (search loop-refuses, search rest-kept)
 
--- src/lib.rt:211:1
+-- src/lib.rt
 same-length-2 : tie.Need-same-length-2
 same-length-2 c = search needs
 
--- src/lib.rt:211:1
+-- src/lib.rt
 returns-3 : tie.Need-returns-3
 returns-3 c = (search loop-passes, search rest-kept)
 

@@ -9,23 +9,23 @@ use Rattle.checking.proofs.record_before.Reads as reads
 use Rattle.checking.proofs.record_before.Lts as lts
 use Rattle.cell.proofs.record_at.Reads as record-at-reads
 
--- src/lib.rt:162:9
+-- src/lib.rt
 record-at-requires : tie.Need-record-at-requires
 record-at-requires c κs = omega arith
 
--- src/lib.rt:162:9
+-- src/lib.rt
 returns : tie.Need-returns
 returns c = c .record-at .ensures ∙ ap (recordAt (c .before .before .before .args .t .now)) (omega arith)
 
--- src/lib.rt:164:29
+-- src/lib.rt
 sub-t6 : tie.Need-sub-t6
 sub-t6 c = search needs
 
--- src/lib.rt:164:5
+-- src/lib.rt
 record-at-requires-2 : tie.Need-record-at-requires-2
 record-at-requires-2 c κs = omega arith
 
--- src/lib.rt:157:1
+-- src/lib.rt
 returns-2 : tie.Need-returns-2
 returns-2 c = search needs
 

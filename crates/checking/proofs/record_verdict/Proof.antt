@@ -12,47 +12,47 @@ use Rattle.checking.proofs.record_before.Reads as record-before-reads
 use Rattle.checking.proofs.reserved_field.Reads as reserved-field-reads
 use Rattle.checking.proofs.unknown_kind.Reads as unknown-kind-reads
 
--- src/lib.rt:176:9
+-- src/lib.rt
 record-at-requires : tie.Need-record-at-requires
 record-at-requires c κs = omega arith
 
--- src/lib.rt:177:8
+-- src/lib.rt
 unknown-kind-requires : tie.Need-unknown-kind-requires
 unknown-kind-requires c κs = search needs
 
--- src/lib.rt:178:9
+-- src/lib.rt
 returns : tie.Need-returns
 returns c = search refuses-4
 
--- src/lib.rt:180:8
+-- src/lib.rt
 reserved-field-requires : tie.Need-reserved-field-requires
 reserved-field-requires c κs = search needs
 
--- src/lib.rt:181:9
+-- src/lib.rt
 returns-2 : tie.Need-returns-2
 returns-2 c = search refuses-5
 
--- src/lib.rt:183:22
+-- src/lib.rt
 record-before-requires : tie.Need-record-before-requires
 record-before-requires c κs = omega arith
 
--- src/lib.rt:183:8
+-- src/lib.rt
 out-of-sequence-requires : tie.Need-out-of-sequence-requires
 out-of-sequence-requires c κs = search needs
 
--- src/lib.rt:184:9
+-- src/lib.rt
 returns-3 : tie.Need-returns-3
 returns-3 c = search refuses-6
 
--- src/lib.rt:186:8
+-- src/lib.rt
 undriven-operand-requires : tie.Need-undriven-operand-requires
 undriven-operand-requires c κs = search needs
 
--- src/lib.rt:187:9
+-- src/lib.rt
 returns-4 : tie.Need-returns-4
 returns-4 c = search refuses-7
 
--- src/lib.rt:171:1
+-- src/lib.rt
 returns-5 : tie.Need-returns-5
 returns-5 c = search refuses-none
 

@@ -20,38 +20,38 @@ Inv-loop t n s₀ s = (s ≤ n) × (Pass ≡ firstOf (slotBySlot (recordStages (
 abbrev μ-loop : tie.MeasureT-loop
 μ-loop t n s₀ s = n - s
 
--- src/lib.rt:198:5
+-- src/lib.rt
 loop-holds : tie.Need-loop-holds Inv-loop μ-loop
 loop-holds c = (search needs, slots-none _)
 
--- src/lib.rt:199:15
+-- src/lib.rt
 record-verdict-requires : tie.Need-record-verdict-requires Inv-loop μ-loop
 record-verdict-requires c κs = search needs
 
 enum-told : tie.Need-enum-told Inv-loop μ-loop
 enum-told c = search needs
 
--- src/lib.rt:201:30
+-- src/lib.rt
 enum-known-x : tie.Need-enum-known-x Inv-loop μ-loop
 enum-known-x c = search needs
 
--- src/lib.rt:202:17
+-- src/lib.rt
 returns : tie.Need-returns Inv-loop μ-loop
 returns c = search decided
 
--- src/lib.rt:205:9
+-- src/lib.rt
 add-s : tie.Need-add-s Inv-loop μ-loop
 add-s c = omega arith
 
--- src/lib.rt:198:5
+-- src/lib.rt
 loop-less : tie.Need-loop-less Inv-loop μ-loop
 loop-less c = omega arith
 
--- src/lib.rt:198:5
+-- src/lib.rt
 loop-again : tie.Need-loop-again Inv-loop μ-loop
 loop-again c = (omega arith, search passed)
 
--- src/lib.rt:193:1
+-- src/lib.rt
 returns-2 : tie.Need-returns-2 Inv-loop μ-loop
 returns-2 c = search all-passed
 

@@ -8,35 +8,35 @@ use Rattle.kinds.proofs.kind_of.Reads as kind-of-reads
 use Rattle.checking.proofs.unused_not_zero.Reads as unused-not-zero-reads
 use Rattle.logic.proofs.either.Reads as either-reads
 
--- src/lib.rt:88:9
+-- src/lib.rt
 kind-of-requires : tie.Need-kind-of-requires
 kind-of-requires c κs = search needs
 
--- src/lib.rt:93:9
+-- src/lib.rt
 unused-not-zero-requires : tie.Need-unused-not-zero-requires
 unused-not-zero-requires c κs = search needs
 
--- src/lib.rt:95:13
+-- src/lib.rt
 unused-not-zero-requires-2 : tie.Need-unused-not-zero-requires-2
 unused-not-zero-requires-2 c κs = search needs
 
--- src/lib.rt:96:27
+-- src/lib.rt
 unused-not-zero-requires-3 : tie.Need-unused-not-zero-requires-3
 unused-not-zero-requires-3 c κs = search needs
 
--- src/lib.rt:96:13
+-- src/lib.rt
 either-requires : tie.Need-either-requires
 either-requires c κs = search needs
 
--- src/lib.rt:94:9
+-- src/lib.rt
 either-requires-2 : tie.Need-either-requires-2
 either-requires-2 c κs = search needs
 
--- src/lib.rt:92:5
+-- src/lib.rt
 either-requires-3 : tie.Need-either-requires-3
 either-requires-3 c κs = search needs
 
--- src/lib.rt:85:1
+-- src/lib.rt
 returns : tie.Need-returns
 unfolding reservedField
 returns c = cc

@@ -7,27 +7,27 @@ use Rattle.checking.proofs.undriven.Reads as reads
 use Rattle.checking.proofs.undriven.Lts as lts
 use Rattle.cell.proofs.kind_at.Reads as kind-at-reads
 
--- src/lib.rt:126:29
+-- src/lib.rt
 enum-told : tie.Need-enum-told
 enum-told c = search needs
 
--- src/lib.rt:127:22
+-- src/lib.rt
 enum-known-d : tie.Need-enum-known-d
 enum-known-d c = search needs
 
--- src/lib.rt:129:17
+-- src/lib.rt
 returns : tie.Need-returns
 returns c = search undriven-past
 
--- src/lib.rt:131:13
+-- src/lib.rt
 kind-at-requires : tie.Need-kind-at-requires
 kind-at-requires c κs = omega arith
 
--- src/lib.rt:121:1
+-- src/lib.rt
 returns-2 : tie.Need-returns-2
 returns-2 c = search needs
 
--- src/lib.rt:121:1
+-- src/lib.rt
 returns-3 : tie.Need-returns-3
 returns-3 c = search undriven-kind
 

@@ -6,11 +6,11 @@ use Rattle.checking.proofs.unknown_kind.Reads as reads
 use Rattle.checking.proofs.unknown_kind.Lts as lts
 use Rattle.kinds.proofs.kind_of.Reads as kind-of-reads
 
--- src/lib.rt:72:6
+-- src/lib.rt
 kind-of-requires : tie.Need-kind-of-requires
 kind-of-requires c κs = search needs
 
--- src/lib.rt:69:1
+-- src/lib.rt
 returns : tie.Need-returns
 unfolding unknownKind
 returns c = cc

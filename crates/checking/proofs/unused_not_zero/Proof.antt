@@ -4,27 +4,27 @@ use Rattle.checking.proofs.unused_not_zero.Tie as tie
 use Rattle.checking.proofs.unused_not_zero.Reads as reads
 use Rattle.checking.proofs.unused_not_zero.Lts as lts
 
--- src/lib.rt:79:24
+-- src/lib.rt
 enum-told : tie.Need-enum-told
 enum-told c = search needs
 
--- src/lib.rt:80:23
+-- src/lib.rt
 enum-told-2 : tie.Need-enum-told-2
 enum-told-2 c = search needs
 
--- src/lib.rt:81:25
+-- src/lib.rt
 enum-told-3 : tie.Need-enum-told-3
 enum-told-3 c = search needs
 
--- src/lib.rt:75:1
+-- src/lib.rt
 returns : tie.Need-returns
 returns c = cc
 
--- src/lib.rt:75:1
+-- src/lib.rt
 returns-2 : tie.Need-returns-2
 returns-2 c = search needs
 
--- src/lib.rt:75:1
+-- src/lib.rt
 returns-3 : tie.Need-returns-3
 returns-3 c = search needs
 

@@ -6,27 +6,27 @@ use Rattle.checking.proofs.verdict_of.Reads as reads
 use Rattle.checking.proofs.verdict_of.Lts as lts
 use Rattle.checking.proofs.netlist_verdict.Reads as netlist-verdict-reads
 
--- src/lib.rt:235:9
+-- src/lib.rt
 returns : tie.Need-returns
 returns c = (search torn, search needs)
 
--- src/lib.rt:239:9
+-- src/lib.rt
 returns-2 : tie.Need-returns-2
 returns-2 c = (search too-many, search needs)
 
--- src/lib.rt:241:30
+-- src/lib.rt
 cast-netlist-verdict : tie.Need-cast-netlist-verdict
 cast-netlist-verdict c = search needs
 
--- src/lib.rt:241:5
+-- src/lib.rt
 netlist-verdict-requires : tie.Need-netlist-verdict-requires
 netlist-verdict-requires c κs = search needs
 
--- src/lib.rt:228:1
+-- src/lib.rt
 same-length : tie.Need-same-length
 same-length c = search needs
 
--- src/lib.rt:228:1
+-- src/lib.rt
 returns-3 : tie.Need-returns-3
 returns-3 c = (search netlist-decides, search needs)
 

@@ -14,31 +14,31 @@ Inv-loop work n reply₀ s₀ at₀ reply s at = Writing n work reply₀ reply s
 abbrev μ-loop : tie.MeasureT-loop
 μ-loop work n reply₀ s₀ at₀ reply s at = n - s
 
--- src/lib.rt:196:5
+-- src/lib.rt
 loop-holds : tie.Need-loop-holds Inv-loop μ-loop
 loop-holds c = search writing-none
 
--- src/lib.rt:197:9
+-- src/lib.rt
 copy-kept-requires : tie.Need-copy-kept-requires Inv-loop μ-loop
 copy-kept-requires c κs = (search writing-numbered, search needs)
 
--- src/lib.rt:198:9
+-- src/lib.rt
 add-s : tie.Need-add-s Inv-loop μ-loop
 add-s c = omega arith
 
--- src/lib.rt:196:5
+-- src/lib.rt
 loop-less : tie.Need-loop-less Inv-loop μ-loop
 loop-less c = omega arith
 
--- src/lib.rt:196:5
+-- src/lib.rt
 loop-again : tie.Need-loop-again Inv-loop μ-loop
 loop-again c = search writing-more
 
--- src/lib.rt:189:1
+-- src/lib.rt
 same-length : tie.Need-same-length Inv-loop μ-loop
 same-length c = search needs
 
--- src/lib.rt:189:1
+-- src/lib.rt
 returns : tie.Need-returns Inv-loop μ-loop
 returns c = search writing-all
 

@@ -10,39 +10,39 @@ use Rattle.cell.proofs.write_record.Reads as write-record-reads
 use Rattle.design.proofs.visit.plain.Reads as plain-reads
 use Rattle.netlist.proofs.record_in.Reads as record-in-reads
 
--- src/lib.rt:180:8
+-- src/lib.rt
 is-noted-requires : tie.Need-is-noted-requires
 is-noted-requires c κs = search needs
 
--- src/lib.rt:181:32
+-- src/lib.rt
 record-in-requires : tie.Need-record-in-requires
 record-in-requires c κs = search needs
 
--- src/lib.rt:181:13
+-- src/lib.rt
 plain-requires : tie.Need-plain-requires
 plain-requires c κs = search needs
 
--- src/lib.rt:182:45
+-- src/lib.rt
 renumbered-record-requires : tie.Need-renumbered-record-requires
 renumbered-record-requires c κs = search needs
 
--- src/lib.rt:182:9
+-- src/lib.rt
 write-record-requires : tie.Need-write-record-requires
 write-record-requires c κs = search needs
 
--- src/lib.rt:183:16
+-- src/lib.rt
 add-result : tie.Need-add-result
 add-result c = search next-fits
 
--- src/lib.rt:183:9
+-- src/lib.rt
 same-length : tie.Need-same-length
 same-length c = search needs
 
--- src/lib.rt:183:9
+-- src/lib.rt
 returns : tie.Need-returns
 returns c = (search copied-next, search copied)
 
--- src/lib.rt:174:1
+-- src/lib.rt
 returns-2 : tie.Need-returns-2
 returns-2 c = (search passed-next, search passed)
 

@@ -13,39 +13,39 @@ Inv-loop work n from to end i₀ count₀ i count = Counting n work from to i co
 abbrev μ-loop : tie.MeasureT-loop
 μ-loop work n from to end i₀ count₀ i count = to - i
 
--- src/lib.rt:100:5
+-- src/lib.rt
 loop-holds : tie.Need-loop-holds Inv-loop μ-loop
 loop-holds c = search counting-none
 
--- src/lib.rt:101:23
+-- src/lib.rt
 add-count : tie.Need-add-count Inv-loop μ-loop
 add-count c = search needs
 
--- src/lib.rt:101:18
+-- src/lib.rt
 mul-count : tie.Need-mul-count Inv-loop μ-loop
 mul-count c = search needs
 
--- src/lib.rt:101:18
+-- src/lib.rt
 shared-slice-read-count : tie.Need-shared-slice-read-count Inv-loop μ-loop
 shared-slice-read-count c = search needs
 
--- src/lib.rt:101:9
+-- src/lib.rt
 add-count-2 : tie.Need-add-count-2 Inv-loop μ-loop
 add-count-2 c = search counting-fits
 
--- src/lib.rt:102:9
+-- src/lib.rt
 add-i : tie.Need-add-i Inv-loop μ-loop
 add-i c = omega arith
 
--- src/lib.rt:100:5
+-- src/lib.rt
 loop-less : tie.Need-loop-less Inv-loop μ-loop
 loop-less c = omega arith
 
--- src/lib.rt:100:5
+-- src/lib.rt
 loop-again : tie.Need-loop-again Inv-loop μ-loop
 loop-again c = search counting-more
 
--- src/lib.rt:91:1
+-- src/lib.rt
 returns : tie.Need-returns Inv-loop μ-loop
 returns c = search counted-all
 

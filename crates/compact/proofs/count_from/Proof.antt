@@ -7,31 +7,31 @@ use Rattle.compact.proofs.count_from.Lts as lts
 use Rattle.compact.proofs.count_between.Reads as count-between-reads
 use Rattle.logic.proofs.pick32.Reads as pick32-reads
 
--- src/lib.rt:115:9
+-- src/lib.rt
 pick32-requires : tie.Need-pick32-requires
 pick32-requires c κs = search needs
 
--- src/lib.rt:116:9
+-- src/lib.rt
 pick32-requires-2 : tie.Need-pick32-requires-2
 pick32-requires-2 c κs = search needs
 
--- src/lib.rt:117:9
+-- src/lib.rt
 count-between-requires : tie.Need-count-between-requires
 count-between-requires c κs = (search needs, (search low-high, search high-end))
 
--- src/lib.rt:118:13
+-- src/lib.rt
 add-result : tie.Need-add-result
 add-result c = search on-fits
 
--- src/lib.rt:118:35
+-- src/lib.rt
 sub-result : tie.Need-sub-result
 sub-result c = search back-fits
 
--- src/lib.rt:108:1
+-- src/lib.rt
 returns : tie.Need-returns
 returns c = (search on-from, search on-few)
 
--- src/lib.rt:108:1
+-- src/lib.rt
 returns-2 : tie.Need-returns-2
 returns-2 c = (search back-from, search back-few)
 

@@ -7,27 +7,27 @@ use Rattle.compact.proofs.count_kept.Lts as lts
 use Rattle.compact.proofs.count_from.Reads as count-from-reads
 use Rattle.logic.proofs.pick32.Reads as pick32-reads
 
--- src/lib.rt:127:9
+-- src/lib.rt
 pick32-requires : tie.Need-pick32-requires
 pick32-requires c κs = search needs
 
--- src/lib.rt:128:23
+-- src/lib.rt
 mul-near : tie.Need-mul-near
 mul-near c = search twice-fits
 
--- src/lib.rt:129:9
+-- src/lib.rt
 pick32-requires-2 : tie.Need-pick32-requires-2
 pick32-requires-2 c κs = search needs
 
--- src/lib.rt:130:34
+-- src/lib.rt
 pick32-requires-3 : tie.Need-pick32-requires-3
 pick32-requires-3 c κs = search needs
 
--- src/lib.rt:130:5
+-- src/lib.rt
 count-from-requires : tie.Need-count-from-requires
 count-from-requires c κs = (search numbered-near, search end-few)
 
--- src/lib.rt:122:1
+-- src/lib.rt
 returns : tie.Need-returns
 returns c = (search counted-end, search needs)
 

@@ -7,23 +7,23 @@ use Rattle.compact.proofs.is_kept.Lts as lts
 use Rattle.cell.proofs.word.Reads as word-reads
 use Rattle.order.proofs.start_of.Reads as start-of-reads
 
--- src/lib.rt:62:9
+-- src/lib.rt
 start-of-requires : tie.Need-start-of-requires
 start-of-requires c κs = search needs
 
--- src/lib.rt:63:30
+-- src/lib.rt
 cast-word : tie.Need-cast-word
 cast-word c = search needs
 
--- src/lib.rt:63:22
+-- src/lib.rt
 add-word : tie.Need-add-word
 add-word c = search needs
 
--- src/lib.rt:63:5
+-- src/lib.rt
 word-requires : tie.Need-word-requires
 word-requires c κs = search needs
 
--- src/lib.rt:58:1
+-- src/lib.rt
 returns : tie.Need-returns
 returns c = search kept-at
 

@@ -6,19 +6,19 @@ use Rattle.compact.proofs.is_noted.Reads as reads
 use Rattle.compact.proofs.is_noted.Lts as lts
 use Rattle.cell.proofs.word.Reads as word-reads
 
--- src/lib.rt:159:31
+-- src/lib.rt
 cast-word : tie.Need-cast-word
 cast-word c = search needs
 
--- src/lib.rt:159:22
+-- src/lib.rt
 add-word : tie.Need-add-word
 add-word c = search needs
 
--- src/lib.rt:159:5
+-- src/lib.rt
 word-requires : tie.Need-word-requires
 word-requires c κs = search needs
 
--- src/lib.rt:154:1
+-- src/lib.rt
 returns : tie.Need-returns
 returns c = search noted-at
 

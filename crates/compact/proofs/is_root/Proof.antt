@@ -9,23 +9,23 @@ use Rattle.netlist.proofs.has_effects.Reads as has-effects-reads
 use Rattle.logic.proofs.both.Reads as both-reads
 use Rattle.netlist.proofs.record_in.Reads as record-in-reads
 
--- src/lib.rt:27:9
+-- src/lib.rt
 record-in-requires : tie.Need-record-in-requires
 record-in-requires c κs = search needs
 
--- src/lib.rt:28:50
+-- src/lib.rt
 cell-of-requires : tie.Need-cell-of-requires
 cell-of-requires c κs = search needs
 
--- src/lib.rt:28:29
+-- src/lib.rt
 has-effects-requires : tie.Need-has-effects-requires
 has-effects-requires c κs = search needs
 
--- src/lib.rt:28:5
+-- src/lib.rt
 both-requires : tie.Need-both-requires
 both-requires c κs = search needs
 
--- src/lib.rt:24:1
+-- src/lib.rt
 returns : tie.Need-returns
 unfolding isRoot
 returns c = cc

@@ -7,19 +7,19 @@ use Rattle.compact.proofs.keep.Lts as lts
 use Rattle.compact.proofs.mark_kept.Reads as mark-kept-reads
 use Rattle.compact.proofs.note_kept.Reads as note-kept-reads
 
--- src/lib.rt:86:5
+-- src/lib.rt
 mark-kept-requires : tie.Need-mark-kept-requires
 mark-kept-requires c κs = search needs
 
--- src/lib.rt:87:5
+-- src/lib.rt
 note-kept-requires : tie.Need-note-kept-requires
 note-kept-requires c κs = search needs
 
--- src/lib.rt:81:1
+-- src/lib.rt
 same-length : tie.Need-same-length
 same-length c = search needs
 
--- src/lib.rt:81:1
+-- src/lib.rt
 returns : tie.Need-returns
 returns c = search keeps
 

@@ -7,27 +7,27 @@ use Rattle.compact.proofs.keep_from.Lts as lts
 use Rattle.compact.proofs.is_root.Reads as is-root-reads
 use Rattle.order.proofs.walk_cell.Reads as walk-cell-reads
 
--- src/lib.rt:36:8
+-- src/lib.rt
 is-root-requires : tie.Need-is-root-requires
 is-root-requires c κs = search needs
 
--- src/lib.rt:37:9
+-- src/lib.rt
 walk-cell-requires : tie.Need-walk-cell-requires
 walk-cell-requires c κs = search needs
 
--- src/lib.rt:37:9
+-- src/lib.rt
 same-length : tie.Need-same-length
 same-length c = search needs
 
--- src/lib.rt:37:9
+-- src/lib.rt
 returns : tie.Need-returns
 returns c = search from-root
 
--- src/lib.rt:32:1
+-- src/lib.rt
 same-length-2 : tie.Need-same-length-2
 same-length-2 c = search needs
 
--- src/lib.rt:32:1
+-- src/lib.rt
 returns-2 : tie.Need-returns-2
 returns-2 c = search from-none
 

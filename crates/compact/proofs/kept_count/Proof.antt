@@ -6,11 +6,11 @@ use Rattle.compact.proofs.kept_count.Reads as reads
 use Rattle.compact.proofs.kept_count.Lts as lts
 use Rattle.compact.proofs.count_between.Reads as count-between-reads
 
--- src/lib.rt:150:5
+-- src/lib.rt
 count-between-requires : tie.Need-count-between-requires
 count-between-requires c κs = search needs
 
--- src/lib.rt:145:1
+-- src/lib.rt
 returns : tie.Need-returns
 returns c = (search (from-first, needs), search (first-few, needs))
 

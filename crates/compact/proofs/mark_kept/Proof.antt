@@ -15,35 +15,35 @@ Inv-loop work₀ n count₀ s₀ work count s = Keeping n work₀ work count s
 abbrev μ-loop : tie.MeasureT-loop
 μ-loop work₀ n count₀ s₀ work count s = n - s
 
--- src/lib.rt:48:5
+-- src/lib.rt
 clear-marks-requires : tie.Need-clear-marks-requires Inv-loop μ-loop
 clear-marks-requires c κs = search needs
 
--- src/lib.rt:51:5
+-- src/lib.rt
 loop-holds : tie.Need-loop-holds Inv-loop μ-loop
 loop-holds c = search keeping-begins
 
--- src/lib.rt:52:9
+-- src/lib.rt
 keep-from-requires : tie.Need-keep-from-requires Inv-loop μ-loop
 keep-from-requires c κs = search needs
 
--- src/lib.rt:53:9
+-- src/lib.rt
 add-s : tie.Need-add-s Inv-loop μ-loop
 add-s c = omega arith
 
--- src/lib.rt:51:5
+-- src/lib.rt
 loop-less : tie.Need-loop-less Inv-loop μ-loop
 loop-less c = omega arith
 
--- src/lib.rt:51:5
+-- src/lib.rt
 loop-again : tie.Need-loop-again Inv-loop μ-loop
 loop-again c = search keeping-more
 
--- src/lib.rt:43:1
+-- src/lib.rt
 same-length : tie.Need-same-length Inv-loop μ-loop
 same-length c = search needs
 
--- src/lib.rt:43:1
+-- src/lib.rt
 returns : tie.Need-returns Inv-loop μ-loop
 returns c = search keeping-ends
 

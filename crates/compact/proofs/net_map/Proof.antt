@@ -8,31 +8,31 @@ use Rattle.compact.proofs.count_kept.Reads as count-kept-reads
 use Rattle.value.proofs.Net.as_cell_index.Reads as as-cell-index-reads
 use Rattle.value.proofs.Net.from_cell_index.Reads as from-cell-index-reads
 
--- src/lib.rt:138:11
+-- src/lib.rt
 as-cell-index-requires : tie.Need-as-cell-index-requires
 as-cell-index-requires c κs = search needs
 
--- src/lib.rt:139:29
+-- src/lib.rt
 enum-told : tie.Need-enum-told
 enum-told c = search needs
 
--- src/lib.rt:140:22
+-- src/lib.rt
 enum-known-y : tie.Need-enum-known-y
 enum-known-y c = search needs
 
--- src/lib.rt:140:54
+-- src/lib.rt
 count-kept-requires : tie.Need-count-kept-requires
 count-kept-requires c κs = search needs
 
--- src/lib.rt:140:28
+-- src/lib.rt
 from-cell-index-requires : tie.Need-from-cell-index-requires
 from-cell-index-requires c κs = search needs
 
--- src/lib.rt:134:1
+-- src/lib.rt
 returns : tie.Need-returns
 returns c = search map-const
 
--- src/lib.rt:134:1
+-- src/lib.rt
 returns-2 : tie.Need-returns-2
 returns-2 c = search map-cell
 

@@ -16,47 +16,47 @@ Inv-loop work₀ n s₀ work s = Noting n work₀ work s
 abbrev μ-loop : tie.MeasureT-loop
 μ-loop work₀ n s₀ work s = n - s
 
--- src/lib.rt:73:5
+-- src/lib.rt
 loop-holds : tie.Need-loop-holds Inv-loop μ-loop
 loop-holds c = search noting-none
 
--- src/lib.rt:74:34
+-- src/lib.rt
 is-kept-requires : tie.Need-is-kept-requires Inv-loop μ-loop
 is-kept-requires c κs = search needs
 
--- src/lib.rt:74:13
+-- src/lib.rt
 pick32-requires : tie.Need-pick32-requires Inv-loop μ-loop
 pick32-requires c κs = search needs
 
--- src/lib.rt:75:34
+-- src/lib.rt
 cast-put : tie.Need-cast-put Inv-loop μ-loop
 cast-put c = search needs
 
--- src/lib.rt:75:25
+-- src/lib.rt
 add-put : tie.Need-add-put Inv-loop μ-loop
 add-put c = search needs
 
--- src/lib.rt:75:9
+-- src/lib.rt
 put-requires : tie.Need-put-requires Inv-loop μ-loop
 put-requires c κs = search needs
 
--- src/lib.rt:76:9
+-- src/lib.rt
 add-s : tie.Need-add-s Inv-loop μ-loop
 add-s c = omega arith
 
--- src/lib.rt:73:5
+-- src/lib.rt
 loop-less : tie.Need-loop-less Inv-loop μ-loop
 loop-less c = omega arith
 
--- src/lib.rt:73:5
+-- src/lib.rt
 loop-again : tie.Need-loop-again Inv-loop μ-loop
 loop-again c = search noting-more
 
--- src/lib.rt:67:1
+-- src/lib.rt
 same-length : tie.Need-same-length Inv-loop μ-loop
 same-length c = search needs
 
--- src/lib.rt:67:1
+-- src/lib.rt
 returns : tie.Need-returns Inv-loop μ-loop
 returns c = search noting-all
 

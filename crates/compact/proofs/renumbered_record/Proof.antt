@@ -9,31 +9,31 @@ use Rattle.design.proofs.visit.net_a.Reads as net-a-reads
 use Rattle.design.proofs.visit.net_b.Reads as net-b-reads
 use Rattle.design.proofs.visit.with_nets.Reads as with-nets-reads
 
--- src/lib.rt:167:30
+-- src/lib.rt
 net-a-requires : tie.Need-net-a-requires
 net-a-requires c κs = search needs
 
--- src/lib.rt:167:9
+-- src/lib.rt
 net-map-requires : tie.Need-net-map-requires
 net-map-requires c κs = search needs
 
--- src/lib.rt:168:30
+-- src/lib.rt
 net-b-requires : tie.Need-net-b-requires
 net-b-requires c κs = search needs
 
--- src/lib.rt:168:9
+-- src/lib.rt
 net-map-requires-2 : tie.Need-net-map-requires-2
 net-map-requires-2 c κs = search needs
 
--- src/lib.rt:169:9
+-- src/lib.rt
 net-map-requires-3 : tie.Need-net-map-requires-3
 net-map-requires-3 c κs = search needs
 
--- src/lib.rt:170:5
+-- src/lib.rt
 with-nets-requires : tie.Need-with-nets-requires
 with-nets-requires c κs = search needs
 
--- src/lib.rt:163:1
+-- src/lib.rt
 returns : tie.Need-returns
 unfolding renamedFields
 returns c = cc

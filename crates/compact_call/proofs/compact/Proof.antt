@@ -6,7 +6,7 @@ use Rattle.delivery.proofs.Shell.{begins-passed, handed, taken, called-written}
 use Rattle.compact_call.proofs.compact.Statement.{statement}
 use Rattle.compact_call.proofs.compact.Tie as tie
 
--- src/lib.rt:21:1
+-- src/lib.rt
 returns : tie.Need-returns
 unfolding compactVerdict compactAnswer compactReply
 returns c =

@@ -5,7 +5,7 @@ use Rattle.delivery.proofs.accept.Tie as tie
 use Rattle.delivery.proofs.accept.Reads as reads
 use Rattle.delivery.proofs.accept.Lts as lts
 
--- src/lib.rt:43:1
+-- src/lib.rt
 returns : tie.Need-returns
 returns c = (refl, refl)
 

@@ -7,19 +7,19 @@ use Rattle.delivery.proofs.begin.Reads as reads
 use Rattle.delivery.proofs.begin.Lts as lts
 use Rattle.checking.proofs.verdict_of.Reads as verdict-of-reads
 
--- src/lib.rt:18:9
+-- src/lib.rt
 returns : tie.Need-returns
 returns c = search begins-short
 
--- src/lib.rt:20:5
+-- src/lib.rt
 verdict-of-requires : tie.Need-verdict-of-requires
 verdict-of-requires c κs = search needs
 
--- src/lib.rt:14:1
+-- src/lib.rt
 same-length : tie.Need-same-length
 same-length c = search needs
 
--- src/lib.rt:14:1
+-- src/lib.rt
 returns-2 : tie.Need-returns-2
 returns-2 c = begins-long _ _ _ _ (search needs) (search needs) (search needs) (search needs)
 

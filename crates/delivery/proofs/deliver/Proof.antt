@@ -9,43 +9,43 @@ use Rattle.compact.proofs.compact.Reads as compact-reads
 use Rattle.compact.proofs.keep.Reads as keep-reads
 use Rattle.compact.proofs.kept_count.Reads as kept-count-reads
 
--- src/lib.rt:33:5
+-- src/lib.rt
 keep-requires : tie.Need-keep-requires
 keep-requires c κs = search needs
 
--- src/lib.rt:34:17
+-- src/lib.rt
 kept-count-requires : tie.Need-kept-count-requires
 kept-count-requires c κs = search needs
 
--- src/lib.rt:34:17
+-- src/lib.rt
 mul-bytes : tie.Need-mul-bytes
 mul-bytes c = search needs
 
--- src/lib.rt:35:23
+-- src/lib.rt
 cast-if1 : tie.Need-cast-if1
 cast-if1 c = search needs
 
--- src/lib.rt:36:9
+-- src/lib.rt
 same-length : tie.Need-same-length
 same-length c = search needs
 
--- src/lib.rt:36:9
+-- src/lib.rt
 returns : tie.Need-returns
 returns c = search compacts-none
 
--- src/lib.rt:38:5
+-- src/lib.rt
 compact-requires : tie.Need-compact-requires
 compact-requires c κs = search needs
 
--- src/lib.rt:28:1
+-- src/lib.rt
 same-length-2 : tie.Need-same-length-2
 same-length-2 c = search needs
 
--- src/lib.rt:28:1
+-- src/lib.rt
 same-length-3 : tie.Need-same-length-3
 same-length-3 c = search needs
 
--- src/lib.rt:28:1
+-- src/lib.rt
 returns-2 : tie.Need-returns-2
 returns-2 c = search compacts-all
 

@@ -7,19 +7,19 @@ use Rattle.delivery.proofs.end.Reads as reads
 use Rattle.delivery.proofs.end.Lts as lts
 use Rattle.delivery.proofs.wipe.Reads as wipe-reads
 
--- src/lib.rt:28:9
+-- src/lib.rt
 wipe-requires : tie.Need-wipe-requires
 wipe-requires c κs = search needs
 
--- src/lib.rt:24:1
+-- src/lib.rt
 same-length : tie.Need-same-length
 same-length c = search needs
 
--- src/lib.rt:24:1
+-- src/lib.rt
 returns : tie.Need-returns
 returns c = search cleared-long
 
--- src/lib.rt:24:1
+-- src/lib.rt
 returns-2 : tie.Need-returns-2
 returns-2 c = search cleared-short
 

@@ -6,11 +6,11 @@ use Rattle.delivery.proofs.refuse.Reads as reads
 use Rattle.delivery.proofs.refuse.Lts as lts
 use Rattle.checking.proofs.figures_of.Reads as figures-of-reads
 
--- src/lib.rt:56:9
+-- src/lib.rt
 figures-of-requires : tie.Need-figures-of-requires
 figures-of-requires c κs = search needs
 
--- src/lib.rt:52:1
+-- src/lib.rt
 returns : tie.Need-returns
 returns c = (cc, cc)
 

@@ -7,27 +7,27 @@ use Rattle.delivery.proofs.tell_written.Lts as lts
 use Rattle.delivery.proofs.accept.Reads as accept-reads
 use Rattle.delivery.proofs.refuse.Reads as refuse-reads
 
--- src/lib.rt:67:27
+-- src/lib.rt
 enum-known-w : tie.Need-enum-known-w
 enum-known-w c = search needs
 
--- src/lib.rt:67:37
+-- src/lib.rt
 accept-requires : tie.Need-accept-requires
 accept-requires c κs = search needs
 
--- src/lib.rt:68:26
+-- src/lib.rt
 enum-known-w-2 : tie.Need-enum-known-w-2
 enum-known-w-2 c = search needs
 
--- src/lib.rt:68:32
+-- src/lib.rt
 refuse-requires : tie.Need-refuse-requires
 refuse-requires c κs = search needs
 
--- src/lib.rt:62:1
+-- src/lib.rt
 returns : tie.Need-returns
 returns c = rw (c .before .before .before .w .given .1) (c .accept .ensures)
 
--- src/lib.rt:62:1
+-- src/lib.rt
 returns-2 : tie.Need-returns-2
 returns-2 c = rw (c .before .before .before .w2 .given .1) (c .refuse .ensures)
 

@@ -14,35 +14,35 @@ Inv-loop work₀ i₀ work i = Wiping work₀ work i
 abbrev μ-loop : tie.MeasureT-loop
 μ-loop work₀ i₀ work i = 16384 - i
 
--- src/lib.rt:21:5
+-- src/lib.rt
 loop-holds : tie.Need-loop-holds Inv-loop μ-loop
 loop-holds c = search wiping-none
 
--- src/lib.rt:22:9
+-- src/lib.rt
 mul-work : tie.Need-mul-work Inv-loop μ-loop
 mul-work c = search needs
 
--- src/lib.rt:22:9
+-- src/lib.rt
 slice-write-work : tie.Need-slice-write-work Inv-loop μ-loop
 slice-write-work c = omega arith
 
--- src/lib.rt:23:9
+-- src/lib.rt
 add-i : tie.Need-add-i Inv-loop μ-loop
 add-i c = omega arith
 
--- src/lib.rt:21:5
+-- src/lib.rt
 loop-less : tie.Need-loop-less Inv-loop μ-loop
 loop-less c = omega arith
 
--- src/lib.rt:21:5
+-- src/lib.rt
 loop-again : tie.Need-loop-again Inv-loop μ-loop
 loop-again c = search wiping-more
 
--- src/lib.rt:16:1
+-- src/lib.rt
 same-length : tie.Need-same-length Inv-loop μ-loop
 same-length c = search needs
 
--- src/lib.rt:16:1
+-- src/lib.rt
 returns : tie.Need-returns Inv-loop μ-loop
 returns c = search wiping-all
 

@@ -12,155 +12,155 @@ use Rattle.logic.proofs.Trit.not.Reads as not-reads
 use Rattle.logic.proofs.Trit.or.Reads as or-reads
 use Rattle.logic.proofs.Trit.xor.Reads as xor-reads
 
--- src/lib.rt:78:27
+-- src/lib.rt
 enum-told : tie.Need-enum-told
 enum-told c = search needs
 
--- src/lib.rt:79:22
+-- src/lib.rt
 enum-known-c : tie.Need-enum-known-c
 enum-known-c c = search needs
 
--- src/lib.rt:79:31
+-- src/lib.rt
 net-level-requires : tie.Need-net-level-requires
 net-level-requires c κs = search needs
 
--- src/lib.rt:80:19
+-- src/lib.rt
 enum-known-c-2 : tie.Need-enum-known-c-2
 enum-known-c-2 c = search needs
 
--- src/lib.rt:80:25
+-- src/lib.rt
 net-level-requires-2 : tie.Need-net-level-requires-2
 net-level-requires-2 c κs = search needs
 
--- src/lib.rt:81:19
+-- src/lib.rt
 enum-known-c-3 : tie.Need-enum-known-c-3
 enum-known-c-3 c = search needs
 
--- src/lib.rt:81:25
+-- src/lib.rt
 net-level-requires-3 : tie.Need-net-level-requires-3
 net-level-requires-3 c κs = search needs
 
--- src/lib.rt:81:25
+-- src/lib.rt
 not-requires : tie.Need-not-requires
 not-requires c κs = search needs
 
--- src/lib.rt:82:19
+-- src/lib.rt
 enum-known-c-4 : tie.Need-enum-known-c-4
 enum-known-c-4 c = search needs
 
--- src/lib.rt:82:28
+-- src/lib.rt
 net-level-requires-4 : tie.Need-net-level-requires-4
 net-level-requires-4 c κs = search needs
 
--- src/lib.rt:82:54
+-- src/lib.rt
 net-level-requires-5 : tie.Need-net-level-requires-5
 net-level-requires-5 c κs = search needs
 
--- src/lib.rt:82:28
+-- src/lib.rt
 and-requires : tie.Need-and-requires
 and-requires c κs = search needs
 
--- src/lib.rt:83:18
+-- src/lib.rt
 enum-known-c-5 : tie.Need-enum-known-c-5
 enum-known-c-5 c = search needs
 
--- src/lib.rt:83:27
+-- src/lib.rt
 net-level-requires-6 : tie.Need-net-level-requires-6
 net-level-requires-6 c κs = search needs
 
--- src/lib.rt:83:52
+-- src/lib.rt
 net-level-requires-7 : tie.Need-net-level-requires-7
 net-level-requires-7 c κs = search needs
 
--- src/lib.rt:83:27
+-- src/lib.rt
 or-requires : tie.Need-or-requires
 or-requires c κs = search needs
 
--- src/lib.rt:84:19
+-- src/lib.rt
 enum-known-c-6 : tie.Need-enum-known-c-6
 enum-known-c-6 c = search needs
 
--- src/lib.rt:84:28
+-- src/lib.rt
 net-level-requires-8 : tie.Need-net-level-requires-8
 net-level-requires-8 c κs = search needs
 
--- src/lib.rt:84:54
+-- src/lib.rt
 net-level-requires-9 : tie.Need-net-level-requires-9
 net-level-requires-9 c κs = search needs
 
--- src/lib.rt:84:28
+-- src/lib.rt
 xor-requires : tie.Need-xor-requires
 xor-requires c κs = search needs
 
--- src/lib.rt:85:19
+-- src/lib.rt
 enum-known-c-7 : tie.Need-enum-known-c-7
 enum-known-c-7 c = search needs
 
--- src/lib.rt:85:31
+-- src/lib.rt
 net-level-requires-10 : tie.Need-net-level-requires-10
 net-level-requires-10 c κs = search needs
 
--- src/lib.rt:86:13
+-- src/lib.rt
 net-level-requires-11 : tie.Need-net-level-requires-11
 net-level-requires-11 c κs = search needs
 
--- src/lib.rt:87:13
+-- src/lib.rt
 net-level-requires-12 : tie.Need-net-level-requires-12
 net-level-requires-12 c κs = search needs
 
--- src/lib.rt:85:31
+-- src/lib.rt
 mux-requires : tie.Need-mux-requires
 mux-requires c κs = search needs
 
--- src/lib.rt:89:19
+-- src/lib.rt
 enum-known-c-8 : tie.Need-enum-known-c-8
 enum-known-c-8 c = search needs
 
--- src/lib.rt:89:28
+-- src/lib.rt
 control-level-requires : tie.Need-control-level-requires
 control-level-requires c κs = search needs
 
--- src/lib.rt:89:58
+-- src/lib.rt
 control-level-requires-2 : tie.Need-control-level-requires-2
 control-level-requires-2 c κs = search needs
 
--- src/lib.rt:89:28
+-- src/lib.rt
 and-requires-2 : tie.Need-and-requires-2
 and-requires-2 c κs = search needs
 
--- src/lib.rt:74:1
+-- src/lib.rt
 returns : tie.Need-returns
 returns c = search input-level
 
--- src/lib.rt:74:1
+-- src/lib.rt
 returns-2 : tie.Need-returns-2
 returns-2 c = search output-level
 
--- src/lib.rt:74:1
+-- src/lib.rt
 returns-3 : tie.Need-returns-3
 returns-3 c = search buf-level
 
--- src/lib.rt:74:1
+-- src/lib.rt
 returns-4 : tie.Need-returns-4
 returns-4 c = search not-level
 
--- src/lib.rt:74:1
+-- src/lib.rt
 returns-5 : tie.Need-returns-5
 returns-5 c = search and-level
 
--- src/lib.rt:74:1
+-- src/lib.rt
 returns-6 : tie.Need-returns-6
 returns-6 c = search or-level
 
--- src/lib.rt:74:1
+-- src/lib.rt
 returns-7 : tie.Need-returns-7
 returns-7 c = search xor-level
 
--- src/lib.rt:74:1
+-- src/lib.rt
 returns-8 : tie.Need-returns-8
 returns-8 c = search mux-level
 
--- src/lib.rt:74:1
+-- src/lib.rt
 returns-9 : tie.Need-returns-9
 returns-9 c = search aig-level
 

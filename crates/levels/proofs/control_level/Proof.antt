@@ -7,31 +7,31 @@ use Rattle.levels.proofs.control_level.Lts as lts
 use Rattle.levels.proofs.net_level.Reads as net-level-reads
 use Rattle.logic.proofs.Trit.not.Reads as not-reads
 
--- src/lib.rt:68:25
+-- src/lib.rt
 enum-known-x : tie.Need-enum-known-x
 enum-known-x c = search needs
 
--- src/lib.rt:68:31
+-- src/lib.rt
 net-level-requires : tie.Need-net-level-requires
 net-level-requires c κs = search needs
 
--- src/lib.rt:69:25
+-- src/lib.rt
 enum-known-x-2 : tie.Need-enum-known-x-2
 enum-known-x-2 c = search needs
 
--- src/lib.rt:69:31
+-- src/lib.rt
 net-level-requires-2 : tie.Need-net-level-requires-2
 net-level-requires-2 c κs = search needs
 
--- src/lib.rt:69:31
+-- src/lib.rt
 not-requires : tie.Need-not-requires
 not-requires c κs = search needs
 
--- src/lib.rt:64:1
+-- src/lib.rt
 returns : tie.Need-returns
 returns c = search control-pos
 
--- src/lib.rt:64:1
+-- src/lib.rt
 returns-2 : tie.Need-returns-2
 returns-2 c = search control-neg
 

@@ -15,35 +15,35 @@ Inv-loop work n kind s₀ count₀ s count = Counting work n kind s count
 abbrev μ-loop : tie.MeasureT-loop
 μ-loop work n kind s₀ count₀ s count = n - s
 
--- src/lib.rt:25:5
+-- src/lib.rt
 loop-holds : tie.Need-loop-holds Inv-loop μ-loop
 loop-holds c = search counts-none
 
--- src/lib.rt:26:22
+-- src/lib.rt
 record-in-requires : tie.Need-record-in-requires Inv-loop μ-loop
 record-in-requires c κs = search needs
 
--- src/lib.rt:26:18
+-- src/lib.rt
 one-requires : tie.Need-one-requires Inv-loop μ-loop
 one-requires c κs = search needs
 
--- src/lib.rt:26:9
+-- src/lib.rt
 add-count : tie.Need-add-count Inv-loop μ-loop
 add-count c = search needs
 
--- src/lib.rt:27:9
+-- src/lib.rt
 add-s : tie.Need-add-s Inv-loop μ-loop
 add-s c = omega arith
 
--- src/lib.rt:25:5
+-- src/lib.rt
 loop-less : tie.Need-loop-less Inv-loop μ-loop
 loop-less c = omega arith
 
--- src/lib.rt:25:5
+-- src/lib.rt
 loop-again : tie.Need-loop-again Inv-loop μ-loop
 loop-again c = search counts-more
 
--- src/lib.rt:19:1
+-- src/lib.rt
 returns : tie.Need-returns Inv-loop μ-loop
 returns c = search counts-all
 

@@ -8,23 +8,23 @@ use Rattle.levels.proofs.fold.Reads as fold-reads
 use Rattle.levels.proofs.place.Reads as place-reads
 use Rattle.order.proofs.topo_sort.Reads as topo-sort-reads
 
--- src/lib.rt:177:9
+-- src/lib.rt
 topo-sort-requires : tie.Need-topo-sort-requires
 topo-sort-requires c κs = search needs
 
--- src/lib.rt:178:5
+-- src/lib.rt
 place-requires : tie.Need-place-requires
 place-requires c κs = search needs
 
--- src/lib.rt:179:5
+-- src/lib.rt
 fold-requires : tie.Need-fold-requires
 fold-requires c κs = search needs
 
--- src/lib.rt:171:1
+-- src/lib.rt
 same-length : tie.Need-same-length
 same-length c = search needs
 
--- src/lib.rt:171:1
+-- src/lib.rt
 returns : tie.Need-returns
 returns c = (search evaluated, search evaluated-within)
 

@@ -15,43 +15,43 @@ Inv-loop work₀ n count i₀ work i = Folding n count work₀ work i
 abbrev μ-loop : tie.MeasureT-loop
 μ-loop work₀ n count i₀ work i = count - i
 
--- src/lib.rt:117:5
+-- src/lib.rt
 loop-holds : tie.Need-loop-holds Inv-loop μ-loop
 loop-holds c = search folding-none
 
--- src/lib.rt:118:42
+-- src/lib.rt
 cast-word : tie.Need-cast-word Inv-loop μ-loop
 cast-word c = search needs
 
--- src/lib.rt:118:34
+-- src/lib.rt
 add-word : tie.Need-add-word Inv-loop μ-loop
 add-word c = search needs
 
--- src/lib.rt:118:13
+-- src/lib.rt
 word-requires : tie.Need-word-requires Inv-loop μ-loop
 word-requires c κs = search needs
 
--- src/lib.rt:119:9
+-- src/lib.rt
 update-requires : tie.Need-update-requires Inv-loop μ-loop
 update-requires c κs = search needs
 
--- src/lib.rt:120:9
+-- src/lib.rt
 add-i : tie.Need-add-i Inv-loop μ-loop
 add-i c = omega arith
 
--- src/lib.rt:117:5
+-- src/lib.rt
 loop-less : tie.Need-loop-less Inv-loop μ-loop
 loop-less c = omega arith
 
--- src/lib.rt:117:5
+-- src/lib.rt
 loop-again : tie.Need-loop-again Inv-loop μ-loop
 loop-again c = search folding-more
 
--- src/lib.rt:109:1
+-- src/lib.rt
 same-length : tie.Need-same-length Inv-loop μ-loop
 same-length c = search needs
 
--- src/lib.rt:109:1
+-- src/lib.rt
 returns : tie.Need-returns Inv-loop μ-loop
 returns c = (search folding-all, search folding-frame)
 

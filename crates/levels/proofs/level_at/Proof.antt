@@ -7,27 +7,27 @@ use Rattle.levels.proofs.level_at.Lts as lts
 use Rattle.cell.proofs.word.Reads as word-reads
 use Rattle.logic.proofs.Trit.from_byte.Reads as from-byte-reads
 
--- src/lib.rt:44:57
+-- src/lib.rt
 cast-word : tie.Need-cast-word
 cast-word c = search needs
 
--- src/lib.rt:44:49
+-- src/lib.rt
 add-word : tie.Need-add-word
 add-word c = search needs
 
--- src/lib.rt:44:32
+-- src/lib.rt
 word-requires : tie.Need-word-requires
 word-requires c κs = search needs
 
--- src/lib.rt:44:9
+-- src/lib.rt
 from-byte-requires : tie.Need-from-byte-requires
 from-byte-requires c κs = search needs
 
--- src/lib.rt:44:9
+-- src/lib.rt
 returns : tie.Need-returns
 returns c = search level-inside
 
--- src/lib.rt:39:1
+-- src/lib.rt
 returns-2 : tie.Need-returns-2
 returns-2 c = search level-past
 

@@ -14,35 +14,35 @@ Inv-loop work₀ n stimulus s₀ k₀ work s k = Placing n stimulus work₀ work
 abbrev μ-loop : tie.MeasureT-loop
 μ-loop work₀ n stimulus s₀ k₀ work s k = n - s
 
--- src/lib.rt:160:5
+-- src/lib.rt
 loop-holds : tie.Need-loop-holds Inv-loop μ-loop
 loop-holds c = search placing-none
 
--- src/lib.rt:161:14
+-- src/lib.rt
 place-at-requires : tie.Need-place-at-requires Inv-loop μ-loop
 place-at-requires c κs = search needs
 
--- src/lib.rt:161:9
+-- src/lib.rt
 add-k : tie.Need-add-k Inv-loop μ-loop
 add-k c = search needs
 
--- src/lib.rt:162:9
+-- src/lib.rt
 add-s : tie.Need-add-s Inv-loop μ-loop
 add-s c = omega arith
 
--- src/lib.rt:160:5
+-- src/lib.rt
 loop-less : tie.Need-loop-less Inv-loop μ-loop
 loop-less c = omega arith
 
--- src/lib.rt:160:5
+-- src/lib.rt
 loop-again : tie.Need-loop-again Inv-loop μ-loop
 loop-again c = search placing-more
 
--- src/lib.rt:152:1
+-- src/lib.rt
 same-length : tie.Need-same-length Inv-loop μ-loop
 same-length c = search needs
 
--- src/lib.rt:152:1
+-- src/lib.rt
 returns : tie.Need-returns Inv-loop μ-loop
 returns c = (search placing-all, search placing-frame)
 

@@ -10,35 +10,35 @@ use Rattle.levels.proofs.put_level.Reads as put-level-reads
 use Rattle.levels.proofs.stimulus_level.Reads as stimulus-level-reads
 use Rattle.netlist.proofs.record_in.Reads as record-in-reads
 
--- src/lib.rt:142:16
+-- src/lib.rt
 record-in-requires : tie.Need-record-in-requires
 record-in-requires c κs = search needs
 
--- src/lib.rt:144:28
+-- src/lib.rt
 stimulus-level-requires : tie.Need-stimulus-level-requires
 stimulus-level-requires c κs = search needs
 
--- src/lib.rt:144:9
+-- src/lib.rt
 put-level-requires : tie.Need-put-level-requires
 put-level-requires c κs = search needs
 
--- src/lib.rt:145:9
+-- src/lib.rt
 same-length : tie.Need-same-length
 same-length c = search needs
 
--- src/lib.rt:145:9
+-- src/lib.rt
 returns : tie.Need-returns
 returns c = (search one-more, (omega arith, search taken-level))
 
--- src/lib.rt:147:5
+-- src/lib.rt
 put-level-requires-2 : tie.Need-put-level-requires-2
 put-level-requires-2 c κs = search needs
 
--- src/lib.rt:137:1
+-- src/lib.rt
 same-length-2 : tie.Need-same-length-2
 same-length-2 c = search needs
 
--- src/lib.rt:137:1
+-- src/lib.rt
 returns-2 : tie.Need-returns-2
 returns-2 c = (search none-more, (omega arith, search passed-level))
 

@@ -6,27 +6,27 @@ use Rattle.levels.proofs.put_level.Lts as lts
 use Rattle.cell.proofs.put.Reads as put-reads
 use Rattle.logic.proofs.Trit.to_byte.Reads as to-byte-reads
 
--- src/lib.rt:52:29
+-- src/lib.rt
 cast-put : tie.Need-cast-put
 cast-put c = search needs
 
--- src/lib.rt:52:21
+-- src/lib.rt
 add-put : tie.Need-add-put
 add-put c = search needs
 
--- src/lib.rt:52:44
+-- src/lib.rt
 to-byte-requires : tie.Need-to-byte-requires
 to-byte-requires c κs = search needs
 
--- src/lib.rt:52:5
+-- src/lib.rt
 put-requires : tie.Need-put-requires
 put-requires c κs = search needs
 
--- src/lib.rt:49:1
+-- src/lib.rt
 same-length : tie.Need-same-length
 same-length c = search needs
 
--- src/lib.rt:49:1
+-- src/lib.rt
 returns : tie.Need-returns
 returns c = cc
 

@@ -7,23 +7,23 @@ use Rattle.levels.proofs.stimulus_level.Lts as lts
 use Rattle.cell.proofs.byte.Reads as byte-reads
 use Rattle.logic.proofs.Trit.from_byte.Reads as from-byte-reads
 
--- src/lib.rt:131:32
+-- src/lib.rt
 byte-requires : tie.Need-byte-requires
 byte-requires c κs = search needs
 
--- src/lib.rt:131:32
+-- src/lib.rt
 cast-from-byte : tie.Need-cast-from-byte
 cast-from-byte c = search needs
 
--- src/lib.rt:131:9
+-- src/lib.rt
 from-byte-requires : tie.Need-from-byte-requires
 from-byte-requires c κs = search needs
 
--- src/lib.rt:131:9
+-- src/lib.rt
 returns : tie.Need-returns
 returns c = search stimulus-inside
 
--- src/lib.rt:126:1
+-- src/lib.rt
 returns-2 : tie.Need-returns-2
 returns-2 c = search stimulus-past
 

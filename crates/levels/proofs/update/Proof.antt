@@ -10,31 +10,31 @@ use Rattle.levels.proofs.level_at.Reads as level-at-reads
 use Rattle.levels.proofs.put_level.Reads as put-level-reads
 use Rattle.netlist.proofs.cell_in.Reads as cell-in-reads
 
--- src/lib.rt:101:13
+-- src/lib.rt
 level-at-requires : tie.Need-level-at-requires
 level-at-requires c κs = search needs
 
--- src/lib.rt:102:13
+-- src/lib.rt
 cell-in-requires : tie.Need-cell-in-requires
 cell-in-requires c κs = search needs
 
--- src/lib.rt:103:13
+-- src/lib.rt
 cell-level-requires : tie.Need-cell-level-requires
 cell-level-requires c κs = search needs
 
--- src/lib.rt:104:9
+-- src/lib.rt
 put-level-requires : tie.Need-put-level-requires
 put-level-requires c κs = search needs
 
--- src/lib.rt:94:1
+-- src/lib.rt
 same-length : tie.Need-same-length
 same-length c = search needs
 
--- src/lib.rt:94:1
+-- src/lib.rt
 returns : tie.Need-returns
 returns c = (search updated, search updated-within)
 
--- src/lib.rt:94:1
+-- src/lib.rt
 returns-2 : tie.Need-returns-2
 returns-2 c = (search not-updated, search within-none)
 

@@ -9,47 +9,47 @@ use Rattle.levels_call.proofs.stimulus_verdict.Reads as stimulus-verdic
 use Rattle.levels_call.proofs.written.Reads as written-reads
 use Rattle.netlist.proofs.load.Reads as load-reads
 
--- src/lib.rt:90:13
+-- src/lib.rt
 cast-n : tie.Need-cast-n
 cast-n c = search needs
 
--- src/lib.rt:91:5
+-- src/lib.rt
 load-requires : tie.Need-load-requires
 load-requires c κs = search needs
 
--- src/lib.rt:92:11
+-- src/lib.rt
 stimulus-verdict-requires : tie.Need-stimulus-verdict-requires
 stimulus-verdict-requires c κs = search needs
 
--- src/lib.rt:93:26
+-- src/lib.rt
 enum-known-x : tie.Need-enum-known-x
 enum-known-x c = search needs
 
--- src/lib.rt:94:34
+-- src/lib.rt
 enum-told : tie.Need-enum-told
 enum-told c = search needs
 
--- src/lib.rt:94:26
+-- src/lib.rt
 written-requires : tie.Need-written-requires
 written-requires c κs = search needs
 
--- src/lib.rt:86:1
+-- src/lib.rt
 same-length : tie.Need-same-length
 same-length c = search needs
 
--- src/lib.rt:86:1
+-- src/lib.rt
 returns : tie.Need-returns
 returns c = search stimulus-refused
 
--- src/lib.rt:86:1
+-- src/lib.rt
 same-length-2 : tie.Need-same-length-2
 same-length-2 c = search needs
 
--- src/lib.rt:86:1
+-- src/lib.rt
 same-length-3 : tie.Need-same-length-3
 same-length-3 c = search needs
 
--- src/lib.rt:86:1
+-- src/lib.rt
 returns-2 : tie.Need-returns-2
 returns-2 c = search stimulus-passed
 

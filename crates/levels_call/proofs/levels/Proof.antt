@@ -6,7 +6,7 @@ use Rattle.levels_call.proofs.Answering.{levels-called}
 use Rattle.levels_call.proofs.levels.Statement.{statement}
 use Rattle.levels_call.proofs.levels.Tie as tie
 
--- src/lib.rt:95:1
+-- src/lib.rt
 returns : tie.Need-returns
 returns c =
     levels-called _ (c .before .before .before .before .before .before .before .begin .ensures)

@@ -16,47 +16,47 @@ Inv-loop work n stimulus count i₀ i = Testing n work stimulus count i
 abbrev μ-loop : tie.MeasureT-loop
 μ-loop work n stimulus count i₀ i = count - i
 
--- src/lib.rt:27:9
+-- src/lib.rt
 count-kind-requires : tie.Need-count-kind-requires Inv-loop μ-loop
 count-kind-requires c κs = search needs
 
--- src/lib.rt:28:27
+-- src/lib.rt
 cast-if1 : tie.Need-cast-if1 Inv-loop μ-loop
 cast-if1 c = search needs
 
--- src/lib.rt:29:9
+-- src/lib.rt
 returns : tie.Need-returns Inv-loop μ-loop
 returns c = search wrong-count
 
--- src/lib.rt:32:5
+-- src/lib.rt
 loop-holds : tie.Need-loop-holds Inv-loop μ-loop
 loop-holds c = search testing-none
 
--- src/lib.rt:33:37
+-- src/lib.rt
 cast-byte : tie.Need-cast-byte Inv-loop μ-loop
 cast-byte c = search needs
 
--- src/lib.rt:33:16
+-- src/lib.rt
 byte-requires : tie.Need-byte-requires Inv-loop μ-loop
 byte-requires c κs = search needs
 
--- src/lib.rt:34:13
+-- src/lib.rt
 returns-2 : tie.Need-returns-2 Inv-loop μ-loop
 returns-2 c = search no-level
 
--- src/lib.rt:36:9
+-- src/lib.rt
 add-i : tie.Need-add-i Inv-loop μ-loop
 add-i c = omega arith
 
--- src/lib.rt:32:5
+-- src/lib.rt
 loop-less : tie.Need-loop-less Inv-loop μ-loop
 loop-less c = omega arith
 
--- src/lib.rt:32:5
+-- src/lib.rt
 loop-again : tie.Need-loop-again Inv-loop μ-loop
 loop-again c = search testing-more
 
--- src/lib.rt:23:1
+-- src/lib.rt
 returns-3 : tie.Need-returns-3 Inv-loop μ-loop
 returns-3 c = search tested
 

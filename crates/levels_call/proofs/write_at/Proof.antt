@@ -13,35 +13,35 @@ use Rattle.levels.proofs.level_at.Reads as level-at-reads
 use Rattle.logic.proofs.Trit.to_byte.Reads as to-byte-reads
 use Rattle.netlist.proofs.record_in.Reads as record-in-reads
 
--- src/lib.rt:47:16
+-- src/lib.rt
 record-in-requires : tie.Need-record-in-requires
 record-in-requires c κs = search needs
 
--- src/lib.rt:49:13
+-- src/lib.rt
 level-at-requires : tie.Need-level-at-requires
 level-at-requires c κs = search needs
 
--- src/lib.rt:50:43
+-- src/lib.rt
 to-byte-requires : tie.Need-to-byte-requires
 to-byte-requires c κs = search needs
 
--- src/lib.rt:50:43
+-- src/lib.rt
 cast-put-byte : tie.Need-cast-put-byte
 cast-put-byte c = omega (arith, byte-bound (c .before .before .level-at .result), c .to-byte .ensures)
 
--- src/lib.rt:50:9
+-- src/lib.rt
 put-byte-requires : tie.Need-put-byte-requires
 put-byte-requires c κs = search needs
 
--- src/lib.rt:51:9
+-- src/lib.rt
 same-length : tie.Need-same-length
 same-length c = search needs
 
--- src/lib.rt:51:9
+-- src/lib.rt
 returns : tie.Need-returns
 returns c = (search one-more, (omega arith, search written-level))
 
--- src/lib.rt:42:1
+-- src/lib.rt
 returns-2 : tie.Need-returns-2
 returns-2 c = (search none-more, (omega arith, search no-level-written))
 

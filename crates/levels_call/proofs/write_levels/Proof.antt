@@ -15,35 +15,35 @@ Inv-loop work n reply₀ s₀ k₀ reply s k = Writing n work reply₀ reply s k
 abbrev μ-loop : tie.MeasureT-loop
 μ-loop work n reply₀ s₀ k₀ reply s k = n - s
 
--- src/lib.rt:64:5
+-- src/lib.rt
 loop-holds : tie.Need-loop-holds Inv-loop μ-loop
 loop-holds c = search writing-none
 
--- src/lib.rt:65:14
+-- src/lib.rt
 write-at-requires : tie.Need-write-at-requires Inv-loop μ-loop
 write-at-requires c κs = search needs
 
--- src/lib.rt:65:9
+-- src/lib.rt
 add-k : tie.Need-add-k Inv-loop μ-loop
 add-k c = search needs
 
--- src/lib.rt:66:9
+-- src/lib.rt
 add-s : tie.Need-add-s Inv-loop μ-loop
 add-s c = omega arith
 
--- src/lib.rt:64:5
+-- src/lib.rt
 loop-less : tie.Need-loop-less Inv-loop μ-loop
 loop-less c = omega arith
 
--- src/lib.rt:64:5
+-- src/lib.rt
 loop-again : tie.Need-loop-again Inv-loop μ-loop
 loop-again c = search writing-more
 
--- src/lib.rt:57:1
+-- src/lib.rt
 same-length : tie.Need-same-length Inv-loop μ-loop
 same-length c = search needs
 
--- src/lib.rt:57:1
+-- src/lib.rt
 returns : tie.Need-returns Inv-loop μ-loop
 returns c = search writing-all
 

@@ -15,35 +15,35 @@ Inv-loop work n e₀ e = Ending n work e₀ e
 abbrev μ-loop : tie.MeasureT-loop
 μ-loop work n e₀ e = n - e
 
--- src/lib.rt:60:17
+-- src/lib.rt
 add-e : tie.Need-add-e Inv-loop μ-loop
 add-e c = omega arith
 
--- src/lib.rt:61:5
+-- src/lib.rt
 loop-holds : tie.Need-loop-holds Inv-loop μ-loop
 loop-holds c = search ending-none
 
--- src/lib.rt:62:12
+-- src/lib.rt
 record-in-requires : tie.Need-record-in-requires Inv-loop μ-loop
 record-in-requires c κs = search needs
 
--- src/lib.rt:63:13
+-- src/lib.rt
 returns : tie.Need-returns Inv-loop μ-loop
 returns c = (search ending-stop, omega arith)
 
--- src/lib.rt:65:9
+-- src/lib.rt
 add-e-2 : tie.Need-add-e-2 Inv-loop μ-loop
 add-e-2 c = omega arith
 
--- src/lib.rt:61:5
+-- src/lib.rt
 loop-less : tie.Need-loop-less Inv-loop μ-loop
 loop-less c = omega arith
 
--- src/lib.rt:61:5
+-- src/lib.rt
 loop-again : tie.Need-loop-again Inv-loop μ-loop
 loop-again c = search ending-more
 
--- src/lib.rt:55:1
+-- src/lib.rt
 returns-2 : tie.Need-returns-2 Inv-loop μ-loop
 returns-2 c = (search ending-all, omega arith)
 

@@ -11,51 +11,51 @@ use Rattle.numberer.proofs.find.Reads as find-reads
 use Rattle.numberer.proofs.insert.Reads as insert-reads
 use Rattle.netlist.proofs.record_in.Reads as record-in-reads
 
--- src/lib.rt:92:45
+-- src/lib.rt
 add-t9 : tie.Need-add-t9
 add-t9 c = search needs
 
--- src/lib.rt:92:9
+-- src/lib.rt
 record-in-requires : tie.Need-record-in-requires
 record-in-requires c κs = search needs
 
--- src/lib.rt:93:11
+-- src/lib.rt
 find-requires : tie.Need-find-requires
 find-requires c κs = (search needs, (omega arith, (search needs, (search needs, search key-is-cell))))
 
--- src/lib.rt:94:19
+-- src/lib.rt
 enum-known-x : tie.Need-enum-known-x
 enum-known-x c = search needs
 
--- src/lib.rt:95:13
+-- src/lib.rt
 replace-net-requires : tie.Need-replace-net-requires
 replace-net-requires c κs = search needs
 
--- src/lib.rt:99:30
+-- src/lib.rt
 enum-told : tie.Need-enum-told
 enum-told c = search needs
 
--- src/lib.rt:99:13
+-- src/lib.rt
 insert-requires : tie.Need-insert-requires
 insert-requires c κs = search needs
 
--- src/lib.rt:100:13
+-- src/lib.rt
 add-result : tie.Need-add-result
 add-result c = search needs
 
--- src/lib.rt:85:1
+-- src/lib.rt
 same-length : tie.Need-same-length
 same-length c = search needs
 
--- src/lib.rt:85:1
+-- src/lib.rt
 returns : tie.Need-returns
 returns c = search numbers-found
 
--- src/lib.rt:85:1
+-- src/lib.rt
 same-length-2 : tie.Need-same-length-2
 same-length-2 c = search needs
 
--- src/lib.rt:85:1
+-- src/lib.rt
 returns-2 : tie.Need-returns-2
 returns-2 c = search numbers-new
 

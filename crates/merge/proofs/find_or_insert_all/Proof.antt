@@ -15,31 +15,31 @@ Inv-loop work₀ n k e i₀ count₀ work i count = Numbering n count₀ i₀ e 
 abbrev μ-loop : tie.MeasureT-loop
 μ-loop work₀ n k e i₀ count₀ work i count = e - i
 
--- src/lib.rt:116:5
+-- src/lib.rt
 loop-holds : tie.Need-loop-holds Inv-loop μ-loop
 loop-holds c = search numbering-none
 
--- src/lib.rt:117:9
+-- src/lib.rt
 find-or-insert-requires : tie.Need-find-or-insert-requires Inv-loop μ-loop
 find-or-insert-requires c κs = (search needs, (omega arith, (omega arith, search numbering-keyed)))
 
--- src/lib.rt:118:9
+-- src/lib.rt
 add-i : tie.Need-add-i Inv-loop μ-loop
 add-i c = omega arith
 
--- src/lib.rt:116:5
+-- src/lib.rt
 loop-less : tie.Need-loop-less Inv-loop μ-loop
 loop-less c = omega arith
 
--- src/lib.rt:116:5
+-- src/lib.rt
 loop-again : tie.Need-loop-again Inv-loop μ-loop
 loop-again c = search numbering-more
 
--- src/lib.rt:106:1
+-- src/lib.rt
 same-length : tie.Need-same-length Inv-loop μ-loop
 same-length c = search needs
 
--- src/lib.rt:106:1
+-- src/lib.rt
 returns : tie.Need-returns Inv-loop μ-loop
 returns c = search numbering-all
 

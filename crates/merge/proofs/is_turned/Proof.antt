@@ -8,27 +8,27 @@ use Rattle.merge.proofs.is_turned.Lts as lts
 use Rattle.logic.proofs.both.Reads as both-reads
 use Rattle.logic.proofs.either.Reads as either-reads
 
--- src/lib.rt:23:34
+-- src/lib.rt
 both-requires : tie.Need-both-requires
 both-requires c κs = search needs
 
--- src/lib.rt:23:9
+-- src/lib.rt
 either-requires : tie.Need-either-requires
 either-requires c κs = search needs
 
--- src/lib.rt:24:9
+-- src/lib.rt
 both-requires-2 : tie.Need-both-requires-2
 both-requires-2 c κs = search needs
 
--- src/lib.rt:25:27
+-- src/lib.rt
 either-requires-2 : tie.Need-either-requires-2
 either-requires-2 c κs = search needs
 
--- src/lib.rt:25:5
+-- src/lib.rt
 both-requires-3 : tie.Need-both-requires-3
 both-requires-3 c κs = search needs
 
--- src/lib.rt:20:1
+-- src/lib.rt
 returns : tie.Need-returns
 unfolding turned
 returns c = cc

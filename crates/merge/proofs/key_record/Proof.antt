@@ -9,23 +9,23 @@ use Rattle.logic.proofs.pick32.Reads as pick32-reads
 use Rattle.logic.proofs.pick8.Reads as pick8-reads
 use Rattle.merge.proofs.is_turned.Reads as is-turned-reads
 
--- src/lib.rt:32:9
+-- src/lib.rt
 is-turned-requires : tie.Need-is-turned-requires
 is-turned-requires c κs = search needs
 
--- src/lib.rt:35:16
+-- src/lib.rt
 pick8-requires : tie.Need-pick8-requires
 pick8-requires c κs = search needs
 
--- src/lib.rt:37:12
+-- src/lib.rt
 pick32-requires : tie.Need-pick32-requires
 pick32-requires c κs = search needs
 
--- src/lib.rt:38:12
+-- src/lib.rt
 pick32-requires-2 : tie.Need-pick32-requires-2
 pick32-requires-2 c κs = search needs
 
--- src/lib.rt:29:1
+-- src/lib.rt
 returns : tie.Need-returns
 unfolding keyFields
 returns c = cc

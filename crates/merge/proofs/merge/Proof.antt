@@ -8,19 +8,19 @@ use Rattle.merge.proofs.merge.Lts as lts
 use Rattle.design.proofs.queue.apply.Reads as apply-reads
 use Rattle.merge.proofs.merge_all.Reads as merge-all-reads
 
--- src/lib.rt:181:5
+-- src/lib.rt
 merge-all-requires : tie.Need-merge-all-requires
 merge-all-requires c κs = search needs
 
--- src/lib.rt:182:5
+-- src/lib.rt
 apply-requires : tie.Need-apply-requires
 apply-requires c κs = search needs
 
--- src/lib.rt:175:1
+-- src/lib.rt
 same-length : tie.Need-same-length
 same-length c = search needs
 
--- src/lib.rt:175:1
+-- src/lib.rt
 returns : tie.Need-returns
 returns c = search merged
 

@@ -9,23 +9,23 @@ use Rattle.design.proofs.queue.unchanged.Reads as unchanged-reads
 use Rattle.merge.proofs.merge_cells.Reads as merge-cells-reads
 use Rattle.order.proofs.iter_cells_topo.Reads as iter-cells-topo-reads
 
--- src/lib.rt:169:9
+-- src/lib.rt
 iter-cells-topo-requires : tie.Need-iter-cells-topo-requires
 iter-cells-topo-requires c κs = search needs
 
--- src/lib.rt:170:5
+-- src/lib.rt
 unchanged-requires : tie.Need-unchanged-requires
 unchanged-requires c κs = search needs
 
--- src/lib.rt:171:5
+-- src/lib.rt
 merge-cells-requires : tie.Need-merge-cells-requires
 merge-cells-requires c κs = search all-ordered
 
--- src/lib.rt:163:1
+-- src/lib.rt
 same-length : tie.Need-same-length
 same-length c = search needs
 
--- src/lib.rt:163:1
+-- src/lib.rt
 returns : tie.Need-returns
 returns c = search all-merged
 

@@ -10,23 +10,23 @@ use Rattle.merge.proofs.cell_end.Reads as cell-end-reads
 use Rattle.merge.proofs.find_or_insert_all.Reads as find-or-insert-all-reads
 use Rattle.merge.proofs.put_keys.Reads as put-keys-reads
 
--- src/lib.rt:130:9
+-- src/lib.rt
 cell-end-requires : tie.Need-cell-end-requires
 cell-end-requires c κs = search needs
 
--- src/lib.rt:131:5
+-- src/lib.rt
 put-keys-requires : tie.Need-put-keys-requires
 put-keys-requires c κs = search needs
 
--- src/lib.rt:132:5
+-- src/lib.rt
 find-or-insert-all-requires : tie.Need-find-or-insert-all-requires
 find-or-insert-all-requires c κs = (search keys-ready, (search keys-keyed, (omega arith, (omega arith, omega arith))))
 
--- src/lib.rt:124:1
+-- src/lib.rt
 same-length : tie.Need-same-length
 same-length c = search needs
 
--- src/lib.rt:124:1
+-- src/lib.rt
 returns : tie.Need-returns
 returns c = search merges
 

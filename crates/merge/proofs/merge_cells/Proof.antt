@@ -16,43 +16,43 @@ Inv-loop work₀ n count k₀ j₀ work k j = Turning n count work₀ work k j
 abbrev μ-loop : tie.MeasureT-loop
 μ-loop work₀ n count k₀ j₀ work k j = count - j
 
--- src/lib.rt:155:5
+-- src/lib.rt
 loop-holds : tie.Need-loop-holds Inv-loop μ-loop
 loop-holds c = search turning-none
 
--- src/lib.rt:156:43
+-- src/lib.rt
 cast-word : tie.Need-cast-word Inv-loop μ-loop
 cast-word c = search needs
 
--- src/lib.rt:156:34
+-- src/lib.rt
 add-word : tie.Need-add-word Inv-loop μ-loop
 add-word c = omega arith
 
--- src/lib.rt:156:13
+-- src/lib.rt
 word-requires : tie.Need-word-requires Inv-loop μ-loop
 word-requires c κs = search needs
 
--- src/lib.rt:157:9
+-- src/lib.rt
 merge-next-requires : tie.Need-merge-next-requires Inv-loop μ-loop
 merge-next-requires c κs = (search needs, (search turning-inside, search turning-room))
 
--- src/lib.rt:158:9
+-- src/lib.rt
 add-j : tie.Need-add-j Inv-loop μ-loop
 add-j c = omega arith
 
--- src/lib.rt:155:5
+-- src/lib.rt
 loop-less : tie.Need-loop-less Inv-loop μ-loop
 loop-less c = omega arith
 
--- src/lib.rt:155:5
+-- src/lib.rt
 loop-again : tie.Need-loop-again Inv-loop μ-loop
 loop-again c = search turning-more
 
--- src/lib.rt:149:1
+-- src/lib.rt
 same-length : tie.Need-same-length Inv-loop μ-loop
 same-length c = search needs
 
--- src/lib.rt:149:1
+-- src/lib.rt
 returns : tie.Need-returns Inv-loop μ-loop
 returns c = search turning-all
 

@@ -9,31 +9,31 @@ use Rattle.netlist.proofs.has_effects.Reads as has-effects-reads
 use Rattle.merge.proofs.merge_cell.Reads as merge-cell-reads
 use Rattle.netlist.proofs.cell_in.Reads as cell-in-reads
 
--- src/lib.rt:142:37
+-- src/lib.rt
 cell-in-requires : tie.Need-cell-in-requires
 cell-in-requires c κs = search needs
 
--- src/lib.rt:142:8
+-- src/lib.rt
 has-effects-requires : tie.Need-has-effects-requires
 has-effects-requires c κs = search needs
 
--- src/lib.rt:143:9
+-- src/lib.rt
 same-length : tie.Need-same-length
 same-length c = search needs
 
--- src/lib.rt:143:9
+-- src/lib.rt
 returns : tie.Need-returns
 returns c = search next-passed
 
--- src/lib.rt:145:5
+-- src/lib.rt
 merge-cell-requires : tie.Need-merge-cell-requires
 merge-cell-requires c κs = (search needs, (search needs, search next-room))
 
--- src/lib.rt:136:1
+-- src/lib.rt
 same-length-2 : tie.Need-same-length-2
 same-length-2 c = search needs
 
--- src/lib.rt:136:1
+-- src/lib.rt
 returns-2 : tie.Need-returns-2
 returns-2 c = search next-merged
 

@@ -11,39 +11,39 @@ use Rattle.merge.proofs.key_record.Reads as key-record-reads
 use Rattle.netlist.proofs.put_record.Reads as put-record-reads
 use Rattle.netlist.proofs.record_in.Reads as record-in-reads
 
--- src/lib.rt:49:28
+-- src/lib.rt
 record-in-requires : tie.Need-record-in-requires
 record-in-requires c κs = search needs
 
--- src/lib.rt:49:9
+-- src/lib.rt
 plain-requires : tie.Need-plain-requires
 plain-requires c κs = search needs
 
--- src/lib.rt:50:26
+-- src/lib.rt
 cast-key-record : tie.Need-cast-key-record
 cast-key-record c = search needs
 
--- src/lib.rt:50:38
+-- src/lib.rt
 replaced-record-requires : tie.Need-replaced-record-requires
 replaced-record-requires c κs = search needs
 
--- src/lib.rt:50:9
+-- src/lib.rt
 key-record-requires : tie.Need-key-record-requires
 key-record-requires c κs = search needs
 
--- src/lib.rt:51:36
+-- src/lib.rt
 add-t15 : tie.Need-add-t15
 add-t15 c = search needs
 
--- src/lib.rt:51:5
+-- src/lib.rt
 put-record-requires : tie.Need-put-record-requires
 put-record-requires c κs = search needs
 
--- src/lib.rt:44:1
+-- src/lib.rt
 same-length : tie.Need-same-length
 same-length c = search needs
 
--- src/lib.rt:44:1
+-- src/lib.rt
 returns : tie.Need-returns
 returns c = search key-put
 

@@ -15,31 +15,31 @@ Inv-loop work₀ n e i₀ work i = Keying n i₀ e work₀ work i
 abbrev μ-loop : tie.MeasureT-loop
 μ-loop work₀ n e i₀ work i = e - i
 
--- src/lib.rt:78:5
+-- src/lib.rt
 loop-holds : tie.Need-loop-holds Inv-loop μ-loop
 loop-holds c = search keying-none
 
--- src/lib.rt:79:9
+-- src/lib.rt
 put-key-requires : tie.Need-put-key-requires Inv-loop μ-loop
 put-key-requires c κs = omega arith
 
--- src/lib.rt:80:9
+-- src/lib.rt
 add-i : tie.Need-add-i Inv-loop μ-loop
 add-i c = omega arith
 
--- src/lib.rt:78:5
+-- src/lib.rt
 loop-less : tie.Need-loop-less Inv-loop μ-loop
 loop-less c = omega arith
 
--- src/lib.rt:78:5
+-- src/lib.rt
 loop-again : tie.Need-loop-again Inv-loop μ-loop
 loop-again c = search keying-more
 
--- src/lib.rt:71:1
+-- src/lib.rt
 same-length : tie.Need-same-length Inv-loop μ-loop
 same-length c = search needs
 
--- src/lib.rt:71:1
+-- src/lib.rt
 returns : tie.Need-returns Inv-loop μ-loop
 returns c = search keying-all
 

@@ -8,19 +8,19 @@ use Rattle.merge_call.proofs.load_merged.Lts as lts
 use Rattle.merge.proofs.merge.Reads as merge-reads
 use Rattle.netlist.proofs.load.Reads as load-reads
 
--- src/lib.rt:33:5
+-- src/lib.rt
 load-requires : tie.Need-load-requires
 load-requires c κs = search needs
 
--- src/lib.rt:34:5
+-- src/lib.rt
 merge-requires : tie.Need-merge-requires
 merge-requires c κs = (search needs, (search needs, search loaded-sequenced))
 
--- src/lib.rt:28:1
+-- src/lib.rt
 same-length : tie.Need-same-length
 same-length c = search needs
 
--- src/lib.rt:28:1
+-- src/lib.rt
 returns : tie.Need-returns
 returns c = search merged-loads
 

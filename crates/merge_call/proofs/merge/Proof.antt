@@ -6,7 +6,7 @@ use Rattle.merge_call.proofs.Merging.{merge-called}
 use Rattle.merge_call.proofs.merge.Statement.{statement}
 use Rattle.merge_call.proofs.merge.Tie as tie
 
--- src/lib.rt:45:1
+-- src/lib.rt
 returns : tie.Need-returns
 returns c =
     merge-called (c .before .before .before .before .before .before .before .begin .ensures)

@@ -9,31 +9,31 @@ use Rattle.delivery.proofs.deliver.Reads as deliver-reads
 use Rattle.merge_call.proofs.load_merged.Reads as load-merged-reads
 use Rattle.merge_call.proofs.with_flag.Reads as with-flag-reads
 
--- src/lib.rt:42:13
+-- src/lib.rt
 cast-n : tie.Need-cast-n
 cast-n c = search needs
 
--- src/lib.rt:43:9
+-- src/lib.rt
 load-merged-requires : tie.Need-load-merged-requires
 load-merged-requires c κs = search needs
 
--- src/lib.rt:44:15
+-- src/lib.rt
 deliver-requires : tie.Need-deliver-requires
 deliver-requires c κs = search needs
 
--- src/lib.rt:44:5
+-- src/lib.rt
 with-flag-requires : tie.Need-with-flag-requires
 with-flag-requires c κs = search needs
 
--- src/lib.rt:38:1
+-- src/lib.rt
 same-length : tie.Need-same-length
 same-length c = search needs
 
--- src/lib.rt:38:1
+-- src/lib.rt
 same-length-2 : tie.Need-same-length-2
 same-length-2 c = search needs
 
--- src/lib.rt:38:1
+-- src/lib.rt
 returns : tie.Need-returns
 returns c = search merged-delivers
 

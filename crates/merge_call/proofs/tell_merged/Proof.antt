@@ -8,31 +8,31 @@ use Rattle.delivery.proofs.accept.Reads as accept-reads
 use Rattle.delivery.proofs.refuse.Reads as refuse-reads
 use Rattle.logic.proofs.pick32.Reads as pick32-reads
 
--- src/lib.rt:84:26
+-- src/lib.rt
 enum-known-m : tie.Need-enum-known-m
 enum-known-m c = search needs
 
--- src/lib.rt:84:77
+-- src/lib.rt
 pick32-requires : tie.Need-pick32-requires
 pick32-requires c κs = search needs
 
--- src/lib.rt:84:45
+-- src/lib.rt
 accept-requires : tie.Need-accept-requires
 accept-requires c κs = search needs
 
--- src/lib.rt:85:25
+-- src/lib.rt
 enum-known-m-2 : tie.Need-enum-known-m-2
 enum-known-m-2 c = search needs
 
--- src/lib.rt:85:31
+-- src/lib.rt
 refuse-requires : tie.Need-refuse-requires
 refuse-requires c κs = search needs
 
--- src/lib.rt:79:1
+-- src/lib.rt
 returns : tie.Need-returns
 returns c = rw (c .before .before .before .before .m .given .1, ← c .before .pick32 .ensures) (c .accept .ensures)
 
--- src/lib.rt:79:1
+-- src/lib.rt
 returns-2 : tie.Need-returns-2
 returns-2 c = rw (c .before .before .before .m2 .given .1) (c .refuse .ensures)
 

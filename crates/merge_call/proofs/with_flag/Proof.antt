@@ -5,19 +5,19 @@ use Rattle.merge_call.proofs.with_flag.Tie as tie
 use Rattle.merge_call.proofs.with_flag.Reads as reads
 use Rattle.merge_call.proofs.with_flag.Lts as lts
 
--- src/lib.rt:22:27
+-- src/lib.rt
 enum-known-w : tie.Need-enum-known-w
 enum-known-w c = search needs
 
--- src/lib.rt:23:26
+-- src/lib.rt
 enum-known-w-2 : tie.Need-enum-known-w-2
 enum-known-w-2 c = search needs
 
--- src/lib.rt:18:1
+-- src/lib.rt
 returns : tie.Need-returns
 returns c = cc
 
--- src/lib.rt:18:1
+-- src/lib.rt
 returns-2 : tie.Need-returns-2
 returns-2 c = cc
 

@@ -6,15 +6,15 @@ use Rattle.netlist.proofs.cell_in.Lts as lts
 use Rattle.cell.proofs.cell_of.Reads as cell-of-reads
 use Rattle.netlist.proofs.record_in.Reads as record-in-reads
 
--- src/lib.rt:49:19
+-- src/lib.rt
 record-in-requires : tie.Need-record-in-requires
 record-in-requires c κs = search needs
 
--- src/lib.rt:49:5
+-- src/lib.rt
 cell-of-requires : tie.Need-cell-of-requires
 cell-of-requires c κs = search needs
 
--- src/lib.rt:46:1
+-- src/lib.rt
 returns : tie.Need-returns
 returns c = cc
 

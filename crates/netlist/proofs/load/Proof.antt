@@ -15,27 +15,27 @@ Inv-loop work₀ ticket n s₀ work s = Loading ticket n work₀ work s
 abbrev μ-loop : tie.MeasureT-loop
 μ-loop work₀ ticket n s₀ work s = n - s
 
--- src/lib.rt:73:5
+-- src/lib.rt
 loop-holds : tie.Need-loop-holds Inv-loop μ-loop
 loop-holds c = search loading-none
 
--- src/lib.rt:74:35
+-- src/lib.rt
 record-at-requires : tie.Need-record-at-requires Inv-loop μ-loop
 record-at-requires c κs = omega arith
 
--- src/lib.rt:74:9
+-- src/lib.rt
 put-record-requires : tie.Need-put-record-requires Inv-loop μ-loop
 put-record-requires c κs = search needs
 
--- src/lib.rt:75:9
+-- src/lib.rt
 add-s : tie.Need-add-s Inv-loop μ-loop
 add-s c = omega arith
 
--- src/lib.rt:73:5
+-- src/lib.rt
 loop-less : tie.Need-loop-less Inv-loop μ-loop
 loop-less c = omega arith
 
--- src/lib.rt:73:5
+-- src/lib.rt
 loop-again : tie.Need-loop-again Inv-loop μ-loop
 loop-again c =
     let a = c .before .before .before .before .before .before .before .before .before .args in
@@ -43,11 +43,11 @@ loop-again c =
     loading-more (a .ticket .now) (a .n) (a .work .now) (l .work) (l .s) (l .inv) (omega arith) (omega arith) _ (c .before .before .before .record-at .result)
     (c .before .before .before .record-at .ensures) (c .before .before .put-record .ensures) (λ k. c .before .before .before .before .before .before .before .shared-slice-known .given k .fits)
 
--- src/lib.rt:65:1
+-- src/lib.rt
 same-length : tie.Need-same-length Inv-loop μ-loop
 same-length c = search needs
 
--- src/lib.rt:65:1
+-- src/lib.rt
 returns : tie.Need-returns Inv-loop μ-loop
 returns c = (search loading-all, search loading-frame)
 

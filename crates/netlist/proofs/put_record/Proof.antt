@@ -6,75 +6,75 @@ use Rattle.netlist.proofs.put_record.Reads as reads
 use Rattle.netlist.proofs.put_record.Lts as lts
 use Rattle.cell.proofs.put.Reads as put-reads
 
--- src/lib.rt:56:14
+-- src/lib.rt
 cast-i : tie.Need-cast-i
 cast-i c = search needs
 
--- src/lib.rt:56:13
+-- src/lib.rt
 mul-i : tie.Need-mul-i
 mul-i c = search needs
 
--- src/lib.rt:57:17
+-- src/lib.rt
 cast-head : tie.Need-cast-head
 cast-head c = search needs
 
--- src/lib.rt:57:42
+-- src/lib.rt
 cast-head-2 : tie.Need-cast-head-2
 cast-head-2 c = search needs
 
--- src/lib.rt:57:67
+-- src/lib.rt
 cast-head-3 : tie.Need-cast-head-3
 cast-head-3 c = search needs
 
--- src/lib.rt:57:60
+-- src/lib.rt
 mul-head : tie.Need-mul-head
 mul-head c = search needs
 
--- src/lib.rt:57:41
+-- src/lib.rt
 add-head : tie.Need-add-head
 add-head c = search needs
 
--- src/lib.rt:57:34
+-- src/lib.rt
 mul-head-2 : tie.Need-mul-head-2
 mul-head-2 c = search needs
 
--- src/lib.rt:57:16
+-- src/lib.rt
 add-head-2 : tie.Need-add-head-2
 add-head-2 c = search needs
 
--- src/lib.rt:58:5
+-- src/lib.rt
 put-requires : tie.Need-put-requires
 put-requires c κs = search needs
 
--- src/lib.rt:59:21
+-- src/lib.rt
 add-put : tie.Need-add-put
 add-put c = search needs
 
--- src/lib.rt:59:5
+-- src/lib.rt
 put-requires-2 : tie.Need-put-requires-2
 put-requires-2 c κs = search needs
 
--- src/lib.rt:60:21
+-- src/lib.rt
 add-put-2 : tie.Need-add-put-2
 add-put-2 c = search needs
 
--- src/lib.rt:60:5
+-- src/lib.rt
 put-requires-3 : tie.Need-put-requires-3
 put-requires-3 c κs = search needs
 
--- src/lib.rt:61:21
+-- src/lib.rt
 add-put-3 : tie.Need-add-put-3
 add-put-3 c = search needs
 
--- src/lib.rt:61:5
+-- src/lib.rt
 put-requires-4 : tie.Need-put-requires-4
 put-requires-4 c κs = search needs
 
--- src/lib.rt:53:1
+-- src/lib.rt
 same-length : tie.Need-same-length
 same-length c = search needs
 
--- src/lib.rt:53:1
+-- src/lib.rt
 returns : tie.Need-returns
 unfolding storeWords
 returns c = cc

@@ -5,56 +5,56 @@ use Rattle.normalize.proofs.or_else.Tie as tie
 use Rattle.normalize.proofs.or_else.Reads as reads
 use Rattle.normalize.proofs.or_else.Lts as lts
 
--- src/lib.rt:51:26
+-- src/lib.rt
 enum-told : tie.Need-enum-told
 enum-told c = search needs
 
--- src/lib.rt:52:24
+-- src/lib.rt
 enum-known-o : tie.Need-enum-known-o
 enum-known-o c = search needs
 
--- src/lib.rt:53:23
+-- src/lib.rt
 enum-known-o-2 : tie.Need-enum-known-o-2
 enum-known-o-2 c = search needs
 
--- src/lib.rt:54:22
+-- src/lib.rt
 enum-known-o-3 : tie.Need-enum-known-o-3
 enum-known-o-3 c = search needs
 
--- src/lib.rt:55:24
+-- src/lib.rt
 enum-known-o-4 : tie.Need-enum-known-o-4
 enum-known-o-4 c = search needs
 
--- src/lib.rt:56:27
+-- src/lib.rt
 enum-known-o-5 : tie.Need-enum-known-o-5
 enum-known-o-5 c = search needs
 
--- src/lib.rt:47:1
+-- src/lib.rt
 returns : tie.Need-returns
 unfolding _orElse_
 returns c = cc
 
--- src/lib.rt:47:1
+-- src/lib.rt
 returns-2 : tie.Need-returns-2
 unfolding _orElse_
 returns-2 c = cc
 
--- src/lib.rt:47:1
+-- src/lib.rt
 returns-3 : tie.Need-returns-3
 unfolding _orElse_
 returns-3 c = rw (c .before .o2 .given .1)
 
--- src/lib.rt:47:1
+-- src/lib.rt
 returns-4 : tie.Need-returns-4
 unfolding _orElse_
 returns-4 c = rw (c .before .o3 .given .1)
 
--- src/lib.rt:47:1
+-- src/lib.rt
 returns-5 : tie.Need-returns-5
 unfolding _orElse_
 returns-5 c = rw (c .before .o4 .given .1)
 
--- src/lib.rt:47:1
+-- src/lib.rt
 returns-6 : tie.Need-returns-6
 unfolding _orElse_
 returns-6 c = rw (c .before .o5 .given .1)

@@ -15,51 +15,51 @@ Inv-loop work k x end i₀ count₀ i count = Counting x work i count
 abbrev μ-loop : tie.MeasureT-loop
 μ-loop work k x end i₀ count₀ i count = rounded k - i
 
--- src/lib.rt:47:16
+-- src/lib.rt
 add-end : tie.Need-add-end Inv-loop μ-loop
 add-end c = search needs
 
--- src/lib.rt:47:15
+-- src/lib.rt
 mul-end : tie.Need-mul-end Inv-loop μ-loop
 mul-end c = search needs
 
--- src/lib.rt:50:5
+-- src/lib.rt
 loop-holds : tie.Need-loop-holds Inv-loop μ-loop
 loop-holds c = search counting-none
 
--- src/lib.rt:51:37
+-- src/lib.rt
 add-pick32 : tie.Need-add-pick32 Inv-loop μ-loop
 add-pick32 c = search needs
 
--- src/lib.rt:51:32
+-- src/lib.rt
 mul-pick32 : tie.Need-mul-pick32 Inv-loop μ-loop
 mul-pick32 c = search needs
 
--- src/lib.rt:51:32
+-- src/lib.rt
 shared-slice-read-pick32 : tie.Need-shared-slice-read-pick32 Inv-loop μ-loop
 shared-slice-read-pick32 c = search counting-inside
 
--- src/lib.rt:51:18
+-- src/lib.rt
 pick32-requires : tie.Need-pick32-requires Inv-loop μ-loop
 pick32-requires c κs = search needs
 
--- src/lib.rt:51:9
+-- src/lib.rt
 add-count : tie.Need-add-count Inv-loop μ-loop
 add-count c = search counting-fits
 
--- src/lib.rt:52:9
+-- src/lib.rt
 add-i : tie.Need-add-i Inv-loop μ-loop
 add-i c = search needs
 
--- src/lib.rt:50:5
+-- src/lib.rt
 loop-less : tie.Need-loop-less Inv-loop μ-loop
 loop-less c = omega arith
 
--- src/lib.rt:50:5
+-- src/lib.rt
 loop-again : tie.Need-loop-again Inv-loop μ-loop
 loop-again c = search counting-more
 
--- src/lib.rt:42:1
+-- src/lib.rt
 returns : tie.Need-returns Inv-loop μ-loop
 returns c = search counting-all
 

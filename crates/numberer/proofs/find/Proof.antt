@@ -9,23 +9,23 @@ use Rattle.numberer.proofs.count_mix.Reads as count-mix-reads
 use Rattle.numberer.proofs.find_first.Reads as find-first-reads
 use Rattle.numberer.proofs.mix.Reads as mix-reads
 
--- src/lib.rt:98:9
+-- src/lib.rt
 mix-requires : tie.Need-mix-requires
 mix-requires c κs = search needs
 
--- src/lib.rt:100:12
+-- src/lib.rt
 count-mix-requires : tie.Need-count-mix-requires
 count-mix-requires c κs = search needs
 
--- src/lib.rt:101:13
+-- src/lib.rt
 returns : tie.Need-returns
 returns c = search none-there
 
--- src/lib.rt:104:5
+-- src/lib.rt
 find-first-requires : tie.Need-find-first-requires
 find-first-requires c κs = search needs
 
--- src/lib.rt:90:1
+-- src/lib.rt
 returns-2 : tie.Need-returns-2
 returns-2 c = search needs
 

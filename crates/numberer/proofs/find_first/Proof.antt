@@ -18,47 +18,47 @@ Inv-loop work k key x i₀ i = Seeking k work key i
 abbrev μ-loop : tie.MeasureT-loop
 μ-loop work k key x i₀ i = k - i
 
--- src/lib.rt:80:5
+-- src/lib.rt
 loop-holds : tie.Need-loop-holds Inv-loop μ-loop
 loop-holds c = search seeking-none
 
--- src/lib.rt:81:12
+-- src/lib.rt
 same-at-requires : tie.Need-same-at-requires Inv-loop μ-loop
 same-at-requires c κs = (omega arith, (search mixed-at, search needs))
 
--- src/lib.rt:82:51
+-- src/lib.rt
 add-t9 : tie.Need-add-t9 Inv-loop μ-loop
 add-t9 c = omega arith
 
--- src/lib.rt:82:17
+-- src/lib.rt
 record-in-requires : tie.Need-record-in-requires Inv-loop μ-loop
 record-in-requires c κs = search needs
 
--- src/lib.rt:83:56
+-- src/lib.rt
 cast-t9 : tie.Need-cast-t9 Inv-loop μ-loop
 cast-t9 c = search needs
 
--- src/lib.rt:83:30
+-- src/lib.rt
 from-cell-index-requires : tie.Need-from-cell-index-requires Inv-loop μ-loop
 from-cell-index-requires c κs = omega arith
 
--- src/lib.rt:83:13
+-- src/lib.rt
 returns : tie.Need-returns Inv-loop μ-loop
 returns c = search seeking-found
 
--- src/lib.rt:85:9
+-- src/lib.rt
 add-i : tie.Need-add-i Inv-loop μ-loop
 add-i c = omega arith
 
--- src/lib.rt:80:5
+-- src/lib.rt
 loop-less : tie.Need-loop-less Inv-loop μ-loop
 loop-less c = omega arith
 
--- src/lib.rt:80:5
+-- src/lib.rt
 loop-again : tie.Need-loop-again Inv-loop μ-loop
 loop-again c = search seeking-more
 
--- src/lib.rt:71:1
+-- src/lib.rt
 returns-2 : tie.Need-returns-2 Inv-loop μ-loop
 returns-2 c = search seeking-end
 

@@ -9,31 +9,31 @@ use Rattle.cell.proofs.put.Reads as put-reads
 use Rattle.numberer.proofs.mix.Reads as mix-reads
 use Rattle.netlist.proofs.put_record.Reads as put-record-reads
 
--- src/lib.rt:111:36
+-- src/lib.rt
 add-put : tie.Need-add-put
 add-put c = search needs
 
--- src/lib.rt:111:5
+-- src/lib.rt
 put-record-requires : tie.Need-put-record-requires
 put-record-requires c κs = search needs
 
--- src/lib.rt:112:21
+-- src/lib.rt
 add-put-2 : tie.Need-add-put-2
 add-put-2 c = search needs
 
--- src/lib.rt:112:43
+-- src/lib.rt
 mix-requires : tie.Need-mix-requires
 mix-requires c κs = search needs
 
--- src/lib.rt:112:5
+-- src/lib.rt
 put-requires : tie.Need-put-requires
 put-requires c κs = search needs
 
--- src/lib.rt:107:1
+-- src/lib.rt
 same-length : tie.Need-same-length
 same-length c = search needs
 
--- src/lib.rt:107:1
+-- src/lib.rt
 returns : tie.Need-returns
 returns c = search stored
 

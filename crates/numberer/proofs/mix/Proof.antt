@@ -6,47 +6,47 @@ use Rattle.numberer.proofs.mix.Tie as tie
 use Rattle.numberer.proofs.mix.Reads as reads
 use Rattle.numberer.proofs.mix.Lts as lts
 
--- src/lib.rt:36:17
+-- src/lib.rt
 cast-rest : tie.Need-cast-rest
 cast-rest c = search needs
 
--- src/lib.rt:36:39
+-- src/lib.rt
 mul-rest : tie.Need-mul-rest
 mul-rest c = search needs
 
--- src/lib.rt:36:16
+-- src/lib.rt
 add-rest : tie.Need-add-rest
 add-rest c = search needs
 
--- src/lib.rt:37:48
+-- src/lib.rt
 cast-result : tie.Need-cast-result
 cast-result c = search needs
 
--- src/lib.rt:37:70
+-- src/lib.rt
 mul-result : tie.Need-mul-result
 mul-result c = search needs
 
--- src/lib.rt:37:47
+-- src/lib.rt
 add-result : tie.Need-add-result
 add-result c = search needs
 
--- src/lib.rt:37:39
+-- src/lib.rt
 mul-result-2 : tie.Need-mul-result-2
 mul-result-2 c = search needs
 
--- src/lib.rt:37:26
+-- src/lib.rt
 add-result-2 : tie.Need-add-result-2
 add-result-2 c = search needs
 
--- src/lib.rt:37:18
+-- src/lib.rt
 mul-result-3 : tie.Need-mul-result-3
 mul-result-3 c = search needs
 
--- src/lib.rt:37:5
+-- src/lib.rt
 add-result-3 : tie.Need-add-result-3
 add-result-3 c = search needs
 
--- src/lib.rt:33:1
+-- src/lib.rt
 returns : tie.Need-returns
 unfolding mixOf
 returns c = cc

@@ -9,31 +9,31 @@ use Rattle.cell.proofs.word.Reads as word-reads
 use Rattle.numberer.proofs.same_key.Reads as same-key-reads
 use Rattle.netlist.proofs.record_in.Reads as record-in-reads
 
--- src/lib.rt:64:25
+-- src/lib.rt
 add-word : tie.Need-add-word
 add-word c = search needs
 
--- src/lib.rt:64:8
+-- src/lib.rt
 word-requires : tie.Need-word-requires
 word-requires c κs = search needs
 
--- src/lib.rt:65:55
+-- src/lib.rt
 add-t10 : tie.Need-add-t10
 add-t10 c = search needs
 
--- src/lib.rt:65:25
+-- src/lib.rt
 record-in-requires : tie.Need-record-in-requires
 record-in-requires c κs = search needs
 
--- src/lib.rt:65:9
+-- src/lib.rt
 same-key-requires : tie.Need-same-key-requires
 same-key-requires c κs = search needs
 
--- src/lib.rt:65:9
+-- src/lib.rt
 returns : tie.Need-returns
 returns c = search compared-there
 
--- src/lib.rt:58:1
+-- src/lib.rt
 returns-2 : tie.Need-returns-2
 returns-2 c = search other-there
 

@@ -7,23 +7,23 @@ use Rattle.numberer.proofs.same_key.Reads as reads
 use Rattle.numberer.proofs.same_key.Lts as lts
 use Rattle.logic.proofs.both.Reads as both-reads
 
--- src/lib.rt:26:13
+-- src/lib.rt
 both-requires : tie.Need-both-requires
 both-requires c κs = search needs
 
--- src/lib.rt:27:28
+-- src/lib.rt
 both-requires-2 : tie.Need-both-requires-2
 both-requires-2 c κs = search needs
 
--- src/lib.rt:27:9
+-- src/lib.rt
 both-requires-3 : tie.Need-both-requires-3
 both-requires-3 c κs = search needs
 
--- src/lib.rt:27:9
+-- src/lib.rt
 returns : tie.Need-returns
 returns c = search agree
 
--- src/lib.rt:22:1
+-- src/lib.rt
 returns-2 : tie.Need-returns-2
 returns-2 c = search differ
 

@@ -74,7 +74,7 @@ walk-operands-below t =
     (falls 1 walk-operands-kinds.ps _<_ μ-walk-operands t)
     walk-operands.Pre
 
--- src/lib.rt:98:9
+-- src/lib.rt
 visit-bit-operands-at-requires : (t : ℕ) → visit-bit-lts.Need-operands-at-requires (
   operands-at-reads.Asked,
   operands-at-reads.Learnt,
@@ -85,7 +85,7 @@ visit-bit-operands-at-requires : (t : ℕ) → visit-bit-lts.Need-operands-at-re
 ) (visit-bit-at t) visit-bit.Post
 visit-bit-operands-at-requires t c κs = search needs
 
--- src/lib.rt:99:32
+-- src/lib.rt
 visit-bit-cast-put : (t : ℕ) → visit-bit-lts.Need-cast-put (
   operands-at-reads.Asked,
   operands-at-reads.Learnt,
@@ -96,7 +96,7 @@ visit-bit-cast-put : (t : ℕ) → visit-bit-lts.Need-cast-put (
 ) (visit-bit-at t) visit-bit.Post
 visit-bit-cast-put t c = search needs
 
--- src/lib.rt:99:21
+-- src/lib.rt
 visit-bit-add-put : (t : ℕ) → visit-bit-lts.Need-add-put (
   operands-at-reads.Asked,
   operands-at-reads.Learnt,
@@ -107,7 +107,7 @@ visit-bit-add-put : (t : ℕ) → visit-bit-lts.Need-add-put (
 ) (visit-bit-at t) visit-bit.Post
 visit-bit-add-put t c = search needs
 
--- src/lib.rt:99:5
+-- src/lib.rt
 visit-bit-put-requires : (t : ℕ) → visit-bit-lts.Need-put-requires (
   operands-at-reads.Asked,
   operands-at-reads.Learnt,
@@ -118,7 +118,7 @@ visit-bit-put-requires : (t : ℕ) → visit-bit-lts.Need-put-requires (
 ) (visit-bit-at t) visit-bit.Post
 visit-bit-put-requires t c κs = search needs
 
--- src/lib.rt:100:9
+-- src/lib.rt
 visit-bit-walk-operands-requires : (t : ℕ) → visit-bit-lts.Need-walk-operands-requires (
   operands-at-reads.Asked,
   operands-at-reads.Learnt,
@@ -129,7 +129,7 @@ visit-bit-walk-operands-requires : (t : ℕ) → visit-bit-lts.Need-walk-operand
 ) (visit-bit-at t) visit-bit.Post
 visit-bit-walk-operands-requires t c κs = (search (marked-falls, lit≤, tt), search marked-ready)
 
--- src/lib.rt:101:30
+-- src/lib.rt
 visit-bit-cast-put-2 : (t : ℕ) → visit-bit-lts.Need-cast-put-2 (
   operands-at-reads.Asked,
   operands-at-reads.Learnt,
@@ -140,7 +140,7 @@ visit-bit-cast-put-2 : (t : ℕ) → visit-bit-lts.Need-cast-put-2 (
 ) (visit-bit-at t) visit-bit.Post
 visit-bit-cast-put-2 t c = search needs
 
--- src/lib.rt:101:21
+-- src/lib.rt
 visit-bit-add-put-2 : (t : ℕ) → visit-bit-lts.Need-add-put-2 (
   operands-at-reads.Asked,
   operands-at-reads.Learnt,
@@ -151,7 +151,7 @@ visit-bit-add-put-2 : (t : ℕ) → visit-bit-lts.Need-add-put-2 (
 ) (visit-bit-at t) visit-bit.Post
 visit-bit-add-put-2 t c = search needs
 
--- src/lib.rt:101:5
+-- src/lib.rt
 visit-bit-put-requires-2 : (t : ℕ) → visit-bit-lts.Need-put-requires-2 (
   operands-at-reads.Asked,
   operands-at-reads.Learnt,
@@ -162,7 +162,7 @@ visit-bit-put-requires-2 : (t : ℕ) → visit-bit-lts.Need-put-requires-2 (
 ) (visit-bit-at t) visit-bit.Post
 visit-bit-put-requires-2 t c κs = search needs
 
--- src/lib.rt:102:5
+-- src/lib.rt
 visit-bit-add-result : (t : ℕ) → visit-bit-lts.Need-add-result (
   operands-at-reads.Asked,
   operands-at-reads.Learnt,
@@ -173,7 +173,7 @@ visit-bit-add-result : (t : ℕ) → visit-bit-lts.Need-add-result (
 ) (visit-bit-at t) visit-bit.Post
 visit-bit-add-result t c = search bit-next
 
--- src/lib.rt:93:1
+-- src/lib.rt
 visit-bit-same-length : (t : ℕ) → visit-bit-lts.Need-same-length (
   operands-at-reads.Asked,
   operands-at-reads.Learnt,
@@ -184,7 +184,7 @@ visit-bit-same-length : (t : ℕ) → visit-bit-lts.Need-same-length (
 ) (visit-bit-at t) visit-bit.Post
 visit-bit-same-length t c = search needs
 
--- src/lib.rt:93:1
+-- src/lib.rt
 visit-bit-returns : (t : ℕ) → visit-bit-lts.Need-returns (
   operands-at-reads.Asked,
   operands-at-reads.Learnt,
@@ -195,7 +195,7 @@ visit-bit-returns : (t : ℕ) → visit-bit-lts.Need-returns (
 ) (visit-bit-at t) visit-bit.Post
 visit-bit-returns t c = search bit-done
 
--- src/lib.rt:86:8
+-- src/lib.rt
 walk-bit-is-visited-requires : (t : ℕ) → walk-bit-lts.Need-is-visited-requires (
   is-visited-reads.Asked,
   is-visited-reads.Learnt,
@@ -204,7 +204,7 @@ walk-bit-is-visited-requires : (t : ℕ) → walk-bit-lts.Need-is-visited-requir
 ) (walk-bit-at t) walk-bit.Post
 walk-bit-is-visited-requires t c κs = search needs
 
--- src/lib.rt:87:9
+-- src/lib.rt
 walk-bit-same-length : (t : ℕ) → walk-bit-lts.Need-same-length (
   is-visited-reads.Asked,
   is-visited-reads.Learnt,
@@ -213,7 +213,7 @@ walk-bit-same-length : (t : ℕ) → walk-bit-lts.Need-same-length (
 ) (walk-bit-at t) walk-bit.Post
 walk-bit-same-length t c = search needs
 
--- src/lib.rt:87:9
+-- src/lib.rt
 walk-bit-returns : (t : ℕ) → walk-bit-lts.Need-returns (
   is-visited-reads.Asked,
   is-visited-reads.Learnt,
@@ -222,7 +222,7 @@ walk-bit-returns : (t : ℕ) → walk-bit-lts.Need-returns (
 ) (walk-bit-at t) walk-bit.Post
 walk-bit-returns t c = search walks-visited
 
--- src/lib.rt:89:5
+-- src/lib.rt
 walk-bit-visit-bit-requires : (t : ℕ) → walk-bit-lts.Need-visit-bit-requires (
   is-visited-reads.Asked,
   is-visited-reads.Learnt,
@@ -231,7 +231,7 @@ walk-bit-visit-bit-requires : (t : ℕ) → walk-bit-lts.Need-visit-bit-requires
 ) (walk-bit-at t) walk-bit.Post
 walk-bit-visit-bit-requires t c κs = (omega arith, (search needs, search is-new))
 
--- src/lib.rt:82:1
+-- src/lib.rt
 walk-bit-same-length-2 : (t : ℕ) → walk-bit-lts.Need-same-length-2 (
   is-visited-reads.Asked,
   is-visited-reads.Learnt,
@@ -240,7 +240,7 @@ walk-bit-same-length-2 : (t : ℕ) → walk-bit-lts.Need-same-length-2 (
 ) (walk-bit-at t) walk-bit.Post
 walk-bit-same-length-2 t c = search needs
 
--- src/lib.rt:82:1
+-- src/lib.rt
 walk-bit-returns-2 : (t : ℕ) → walk-bit-lts.Need-returns-2 (
   is-visited-reads.Asked,
   is-visited-reads.Learnt,
@@ -249,7 +249,7 @@ walk-bit-returns-2 : (t : ℕ) → walk-bit-lts.Need-returns-2 (
 ) (walk-bit-at t) walk-bit.Post
 walk-bit-returns-2 t c = search needs
 
--- src/lib.rt:120:11
+-- src/lib.rt
 walk-net-as-cell-index-requires : (t : ℕ) → walk-net-lts.Need-as-cell-index-requires (
   as-cell-index-reads.Asked,
   as-cell-index-reads.Learnt,
@@ -260,7 +260,7 @@ walk-net-as-cell-index-requires : (t : ℕ) → walk-net-lts.Need-as-cell-index-
 ) (walk-net-at t) walk-net.Post
 walk-net-as-cell-index-requires t c κs = search needs
 
--- src/lib.rt:121:29
+-- src/lib.rt
 walk-net-enum-told : (t : ℕ) → walk-net-lts.Need-enum-told (
   as-cell-index-reads.Asked,
   as-cell-index-reads.Learnt,
@@ -271,7 +271,7 @@ walk-net-enum-told : (t : ℕ) → walk-net-lts.Need-enum-told (
 ) (walk-net-at t) walk-net.Post
 walk-net-enum-told t c = search needs
 
--- src/lib.rt:122:22
+-- src/lib.rt
 walk-net-enum-known-s : (t : ℕ) → walk-net-lts.Need-enum-known-s (
   as-cell-index-reads.Asked,
   as-cell-index-reads.Learnt,
@@ -282,7 +282,7 @@ walk-net-enum-known-s : (t : ℕ) → walk-net-lts.Need-enum-known-s (
 ) (walk-net-at t) walk-net.Post
 walk-net-enum-known-s t c = search needs
 
--- src/lib.rt:123:16
+-- src/lib.rt
 walk-net-is-input-requires : (t : ℕ) → walk-net-lts.Need-is-input-requires (
   as-cell-index-reads.Asked,
   as-cell-index-reads.Learnt,
@@ -293,7 +293,7 @@ walk-net-is-input-requires : (t : ℕ) → walk-net-lts.Need-is-input-requires (
 ) (walk-net-at t) walk-net.Post
 walk-net-is-input-requires t c κs = search needs
 
--- src/lib.rt:124:17
+-- src/lib.rt
 walk-net-same-length : (t : ℕ) → walk-net-lts.Need-same-length (
   as-cell-index-reads.Asked,
   as-cell-index-reads.Learnt,
@@ -304,7 +304,7 @@ walk-net-same-length : (t : ℕ) → walk-net-lts.Need-same-length (
 ) (walk-net-at t) walk-net.Post
 walk-net-same-length t c = search needs
 
--- src/lib.rt:124:17
+-- src/lib.rt
 walk-net-returns : (t : ℕ) → walk-net-lts.Need-returns (
   as-cell-index-reads.Asked,
   as-cell-index-reads.Learnt,
@@ -315,7 +315,7 @@ walk-net-returns : (t : ℕ) → walk-net-lts.Need-returns (
 ) (walk-net-at t) walk-net.Post
 walk-net-returns t c = search net-input
 
--- src/lib.rt:126:13
+-- src/lib.rt
 walk-net-walk-bit-requires : (t : ℕ) → walk-net-lts.Need-walk-bit-requires (
   as-cell-index-reads.Asked,
   as-cell-index-reads.Learnt,
@@ -326,7 +326,7 @@ walk-net-walk-bit-requires : (t : ℕ) → walk-net-lts.Need-walk-bit-requires (
 ) (walk-net-at t) walk-net.Post
 walk-net-walk-bit-requires t c κs = (omega arith, search needs)
 
--- src/lib.rt:116:1
+-- src/lib.rt
 walk-net-returns-2 : (t : ℕ) → walk-net-lts.Need-returns-2 (
   as-cell-index-reads.Asked,
   as-cell-index-reads.Learnt,
@@ -337,7 +337,7 @@ walk-net-returns-2 : (t : ℕ) → walk-net-lts.Need-returns-2 (
 ) (walk-net-at t) walk-net.Post
 walk-net-returns-2 t c = search net-constant
 
--- src/lib.rt:116:1
+-- src/lib.rt
 walk-net-same-length-2 : (t : ℕ) → walk-net-lts.Need-same-length-2 (
   as-cell-index-reads.Asked,
   as-cell-index-reads.Learnt,
@@ -348,7 +348,7 @@ walk-net-same-length-2 : (t : ℕ) → walk-net-lts.Need-same-length-2 (
 ) (walk-net-at t) walk-net.Post
 walk-net-same-length-2 t c = search needs
 
--- src/lib.rt:116:1
+-- src/lib.rt
 walk-net-returns-3 : (t : ℕ) → walk-net-lts.Need-returns-3 (
   as-cell-index-reads.Asked,
   as-cell-index-reads.Learnt,
@@ -359,21 +359,21 @@ walk-net-returns-3 : (t : ℕ) → walk-net-lts.Need-returns-3 (
 ) (walk-net-at t) walk-net.Post
 walk-net-returns-3 t c = search net-bit
 
--- src/lib.rt:110:9
+-- src/lib.rt
 walk-operands-walk-net-requires : (t : ℕ) → walk-operands-lts.Need-walk-net-requires (
   walk-net-below t,
   walk-net.Post,
 ) (walk-operands-at t) walk-operands.Post
 walk-operands-walk-net-requires t c κs = (omega arith, search needs)
 
--- src/lib.rt:111:9
+-- src/lib.rt
 walk-operands-walk-net-requires-2 : (t : ℕ) → walk-operands-lts.Need-walk-net-requires-2 (
   walk-net-below t,
   walk-net.Post,
 ) (walk-operands-at t) walk-operands.Post
 walk-operands-walk-net-requires-2 t c κs = (search walks-falls, search walks-ready)
 
--- src/lib.rt:112:5
+-- src/lib.rt
 walk-operands-walk-net-requires-3 : (t : ℕ) → walk-operands-lts.Need-walk-net-requires-3 (
   walk-net-below t,
   walk-net.Post,
@@ -383,14 +383,14 @@ walk-operands-walk-net-requires-3 t c κs = (
   search (walks-ready-2, c .before .before .before .walk-net2 .ensures, c .before .before .before .before .before .before .before .walk-net .ensures, c .before .before .before .before .before .before .before .before .before .before .pre .1),
 )
 
--- src/lib.rt:106:1
+-- src/lib.rt
 walk-operands-same-length : (t : ℕ) → walk-operands-lts.Need-same-length (
   walk-net-below t,
   walk-net.Post,
 ) (walk-operands-at t) walk-operands.Post
 walk-operands-same-length t c = search needs
 
--- src/lib.rt:106:1
+-- src/lib.rt
 walk-operands-returns :
     (t : ℕ) →
     walk-operands-lts.Need-returns

@@ -8,23 +8,23 @@ use Rattle.order.proofs.lower_bit.Lts as lts
 use Rattle.order.proofs.lower_net.Reads as lower-net-reads
 use Rattle.order.proofs.operands_at.Reads as operands-at-reads
 
--- src/lib.rt:199:9
+-- src/lib.rt
 operands-at-requires : tie.Need-operands-at-requires
 operands-at-requires c κs = search needs
 
--- src/lib.rt:200:9
+-- src/lib.rt
 lower-net-requires : tie.Need-lower-net-requires
 lower-net-requires c κs = search needs
 
--- src/lib.rt:201:9
+-- src/lib.rt
 lower-net-requires-2 : tie.Need-lower-net-requires-2
 lower-net-requires-2 c κs = search needs
 
--- src/lib.rt:202:5
+-- src/lib.rt
 lower-net-requires-3 : tie.Need-lower-net-requires-3
 lower-net-requires-3 c κs = search needs
 
--- src/lib.rt:195:1
+-- src/lib.rt
 returns : tie.Need-returns
 returns c = search bit-lowers
 

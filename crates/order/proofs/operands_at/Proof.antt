@@ -10,27 +10,27 @@ use Rattle.logic.proofs.both.Reads as both-reads
 use Rattle.netlist.proofs.record_in.Reads as record-in-reads
 use Rattle.logic.proofs.pick32.Reads as pick32-reads
 
--- src/lib.rt:36:9
+-- src/lib.rt
 record-in-requires : tie.Need-record-in-requires
 record-in-requires c κs = search needs
 
--- src/lib.rt:37:9
+-- src/lib.rt
 both-requires : tie.Need-both-requires
 both-requires c κs = search needs
 
--- src/lib.rt:39:13
+-- src/lib.rt
 pick32-requires : tie.Need-pick32-requires
 pick32-requires c κs = search needs
 
--- src/lib.rt:40:13
+-- src/lib.rt
 pick32-requires-2 : tie.Need-pick32-requires-2
 pick32-requires-2 c κs = search needs
 
--- src/lib.rt:41:13
+-- src/lib.rt
 pick32-requires-3 : tie.Need-pick32-requires-3
 pick32-requires-3 c κs = search needs
 
--- src/lib.rt:33:1
+-- src/lib.rt
 returns : tie.Need-returns
 unfolding fieldOperands
 returns c = rw (← field-operands) cc

@@ -6,7 +6,7 @@ use Rattle.delivery.proofs.Shell.{begins-passed, handed, taken, called-written}
 use Rattle.rewrite_call.proofs.rewrite.Statement.{statement}
 use Rattle.rewrite_call.proofs.rewrite.Tie as tie
 
--- src/lib.rt:28:1
+-- src/lib.rt
 returns : tie.Need-returns
 unfolding rewriteVerdict rewriteAnswer rewriteReply
 returns c =

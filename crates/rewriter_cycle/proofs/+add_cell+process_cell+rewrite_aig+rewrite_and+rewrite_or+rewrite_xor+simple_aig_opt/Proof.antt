@@ -136,7 +136,7 @@ simple-aig-opt-below t =
     (falls 1 simple-aig-opt-kinds.ps _<_ μ-simple-aig-opt t)
     simple-aig-opt.Pre
 
--- src/lib.rt:223:11
+-- src/lib.rt
 add-cell-process-cell-requires : (t : ℕ) → add-cell-lts.Need-process-cell-requires (
   process-cell-below t,
   process-cell.Post,
@@ -145,7 +145,7 @@ add-cell-process-cell-requires : (t : ℕ) → add-cell-lts.Need-process-cell-re
 ) (add-cell-at t) add-cell.Post
 add-cell-process-cell-requires t c κs = (omega arith, search needs)
 
--- src/lib.rt:224:25
+-- src/lib.rt
 add-cell-enum-known-y : (t : ℕ) → add-cell-lts.Need-enum-known-y (
   process-cell-below t,
   process-cell.Post,
@@ -154,7 +154,7 @@ add-cell-enum-known-y : (t : ℕ) → add-cell-lts.Need-enum-known-y (
 ) (add-cell-at t) add-cell.Post
 add-cell-enum-known-y t c = search needs
 
--- src/lib.rt:224:31
+-- src/lib.rt
 add-cell-enter-requires : (t : ℕ) → add-cell-lts.Need-enter-requires (
   process-cell-below t,
   process-cell.Post,
@@ -163,7 +163,7 @@ add-cell-enter-requires : (t : ℕ) → add-cell-lts.Need-enter-requires (
 ) (add-cell-at t) add-cell.Post
 add-cell-enter-requires t c κs = search none-held
 
--- src/lib.rt:225:25
+-- src/lib.rt
 add-cell-enum-known-d : (t : ℕ) → add-cell-lts.Need-enum-known-d (
   process-cell-below t,
   process-cell.Post,
@@ -172,7 +172,7 @@ add-cell-enum-known-d : (t : ℕ) → add-cell-lts.Need-enum-known-d (
 ) (add-cell-at t) add-cell.Post
 add-cell-enum-known-d t c = search needs
 
--- src/lib.rt:225:34
+-- src/lib.rt
 add-cell-enter-requires-2 : (t : ℕ) → add-cell-lts.Need-enter-requires-2 (
   process-cell-below t,
   process-cell.Post,
@@ -181,7 +181,7 @@ add-cell-enter-requires-2 : (t : ℕ) → add-cell-lts.Need-enter-requires-2 (
 ) (add-cell-at t) add-cell.Post
 add-cell-enter-requires-2 t c κs = search cell-held
 
--- src/lib.rt:226:26
+-- src/lib.rt
 add-cell-enum-known-n : (t : ℕ) → add-cell-lts.Need-enum-known-n (
   process-cell-below t,
   process-cell.Post,
@@ -190,7 +190,7 @@ add-cell-enum-known-n : (t : ℕ) → add-cell-lts.Need-enum-known-n (
 ) (add-cell-at t) add-cell.Post
 add-cell-enum-known-n t c = search needs
 
--- src/lib.rt:227:28
+-- src/lib.rt
 add-cell-enum-told : (t : ℕ) → add-cell-lts.Need-enum-told (
   process-cell-below t,
   process-cell.Post,
@@ -199,7 +199,7 @@ add-cell-enum-told : (t : ℕ) → add-cell-lts.Need-enum-told (
 ) (add-cell-at t) add-cell.Post
 add-cell-enum-told t c = search needs
 
--- src/lib.rt:219:1
+-- src/lib.rt
 add-cell-same-length : (t : ℕ) → add-cell-lts.Need-same-length (
   process-cell-below t,
   process-cell.Post,
@@ -208,7 +208,7 @@ add-cell-same-length : (t : ℕ) → add-cell-lts.Need-same-length (
 ) (add-cell-at t) add-cell.Post
 add-cell-same-length t c = search needs
 
--- src/lib.rt:219:1
+-- src/lib.rt
 add-cell-returns : (t : ℕ) → add-cell-lts.Need-returns (
   process-cell-below t,
   process-cell.Post,
@@ -217,7 +217,7 @@ add-cell-returns : (t : ℕ) → add-cell-lts.Need-returns (
 ) (add-cell-at t) add-cell.Post
 add-cell-returns t c = search add-none
 
--- src/lib.rt:219:1
+-- src/lib.rt
 add-cell-same-length-2 : (t : ℕ) → add-cell-lts.Need-same-length-2 (
   process-cell-below t,
   process-cell.Post,
@@ -226,7 +226,7 @@ add-cell-same-length-2 : (t : ℕ) → add-cell-lts.Need-same-length-2 (
 ) (add-cell-at t) add-cell.Post
 add-cell-same-length-2 t c = search needs
 
--- src/lib.rt:219:1
+-- src/lib.rt
 add-cell-returns-2 : (t : ℕ) → add-cell-lts.Need-returns-2 (
   process-cell-below t,
   process-cell.Post,
@@ -235,7 +235,7 @@ add-cell-returns-2 : (t : ℕ) → add-cell-lts.Need-returns-2 (
 ) (add-cell-at t) add-cell.Post
 add-cell-returns-2 t c = search add-cell
 
--- src/lib.rt:219:1
+-- src/lib.rt
 add-cell-same-length-3 : (t : ℕ) → add-cell-lts.Need-same-length-3 (
   process-cell-below t,
   process-cell.Post,
@@ -244,7 +244,7 @@ add-cell-same-length-3 : (t : ℕ) → add-cell-lts.Need-same-length-3 (
 ) (add-cell-at t) add-cell.Post
 add-cell-same-length-3 t c = search needs
 
--- src/lib.rt:219:1
+-- src/lib.rt
 add-cell-returns-3 : (t : ℕ) → add-cell-lts.Need-returns-3 (
   process-cell-below t,
   process-cell.Post,
@@ -253,7 +253,7 @@ add-cell-returns-3 : (t : ℕ) → add-cell-lts.Need-returns-3 (
 ) (add-cell-at t) add-cell.Post
 add-cell-returns-3 t c = search add-value
 
--- src/lib.rt:219:1
+-- src/lib.rt
 add-cell-same-length-4 : (t : ℕ) → add-cell-lts.Need-same-length-4 (
   process-cell-below t,
   process-cell.Post,
@@ -262,7 +262,7 @@ add-cell-same-length-4 : (t : ℕ) → add-cell-lts.Need-same-length-4 (
 ) (add-cell-at t) add-cell.Post
 add-cell-same-length-4 t c = search needs
 
--- src/lib.rt:219:1
+-- src/lib.rt
 add-cell-returns-4 : (t : ℕ) → add-cell-lts.Need-returns-4 (
   process-cell-below t,
   process-cell.Post,
@@ -277,7 +277,7 @@ process-cell-Inv-loop work₀ y₀ d₀ replaced₀ work y d replaced = Forms y�
 abbrev process-cell-μ-loop : process-cell-lts.MeasureT-loop
 process-cell-μ-loop work₀ y₀ d₀ replaced₀ work y d replaced = weight (rewriterIn y work .stamps) d
 
--- src/lib.rt:193:5
+-- src/lib.rt
 process-cell-loop-holds : (t : ℕ) → process-cell-lts.Need-loop-holds (
   normalize-reads.Asked,
   normalize-reads.Learnt,
@@ -290,7 +290,7 @@ process-cell-loop-holds : (t : ℕ) → process-cell-lts.Need-loop-holds (
 ) (process-cell-at t) process-cell.Post process-cell-Inv-loop process-cell-μ-loop
 process-cell-loop-holds t c = search forms-begin
 
--- src/lib.rt:194:15
+-- src/lib.rt
 process-cell-normalize-requires : (t : ℕ) → process-cell-lts.Need-normalize-requires (
   normalize-reads.Asked,
   normalize-reads.Learnt,
@@ -303,7 +303,7 @@ process-cell-normalize-requires : (t : ℕ) → process-cell-lts.Need-normalize-
 ) (process-cell-at t) process-cell.Post process-cell-Inv-loop process-cell-μ-loop
 process-cell-normalize-requires t c κs = search needs
 
--- src/lib.rt:195:28
+-- src/lib.rt
 process-cell-enum-known-n : (t : ℕ) → process-cell-lts.Need-enum-known-n (
   normalize-reads.Asked,
   normalize-reads.Learnt,
@@ -316,7 +316,7 @@ process-cell-enum-known-n : (t : ℕ) → process-cell-lts.Need-enum-known-n (
 ) (process-cell-at t) process-cell.Post process-cell-Inv-loop process-cell-μ-loop
 process-cell-enum-known-n t c = search needs
 
--- src/lib.rt:195:34
+-- src/lib.rt
 process-cell-same-length : (t : ℕ) → process-cell-lts.Need-same-length (
   normalize-reads.Asked,
   normalize-reads.Learnt,
@@ -329,7 +329,7 @@ process-cell-same-length : (t : ℕ) → process-cell-lts.Need-same-length (
 ) (process-cell-at t) process-cell.Post process-cell-Inv-loop process-cell-μ-loop
 process-cell-same-length t c = search needs
 
--- src/lib.rt:195:34
+-- src/lib.rt
 process-cell-returns : (t : ℕ) → process-cell-lts.Need-returns (
   normalize-reads.Asked,
   normalize-reads.Learnt,
@@ -342,7 +342,7 @@ process-cell-returns : (t : ℕ) → process-cell-lts.Need-returns (
 ) (process-cell-at t) process-cell.Post process-cell-Inv-loop process-cell-μ-loop
 process-cell-returns t c = search normal-value
 
--- src/lib.rt:196:27
+-- src/lib.rt
 process-cell-enum-known-e : (t : ℕ) → process-cell-lts.Need-enum-known-e (
   normalize-reads.Asked,
   normalize-reads.Learnt,
@@ -355,7 +355,7 @@ process-cell-enum-known-e : (t : ℕ) → process-cell-lts.Need-enum-known-e (
 ) (process-cell-at t) process-cell.Post process-cell-Inv-loop process-cell-μ-loop
 process-cell-enum-known-e t c = search needs
 
--- src/lib.rt:193:5
+-- src/lib.rt
 process-cell-loop-less : (t : ℕ) → process-cell-lts.Need-loop-less (
   normalize-reads.Asked,
   normalize-reads.Learnt,
@@ -368,7 +368,7 @@ process-cell-loop-less : (t : ℕ) → process-cell-lts.Need-loop-less (
 ) (process-cell-at t) process-cell.Post process-cell-Inv-loop process-cell-μ-loop
 process-cell-loop-less t c = search normal-less
 
--- src/lib.rt:193:5
+-- src/lib.rt
 process-cell-loop-again : (t : ℕ) → process-cell-lts.Need-loop-again (
   normalize-reads.Asked,
   normalize-reads.Learnt,
@@ -381,7 +381,7 @@ process-cell-loop-again : (t : ℕ) → process-cell-lts.Need-loop-again (
 ) (process-cell-at t) process-cell.Post process-cell-Inv-loop process-cell-μ-loop
 process-cell-loop-again t c = search normal-form
 
--- src/lib.rt:200:51
+-- src/lib.rt
 process-cell-enum-told : (t : ℕ) → process-cell-lts.Need-enum-told (
   normalize-reads.Asked,
   normalize-reads.Learnt,
@@ -394,7 +394,7 @@ process-cell-enum-told : (t : ℕ) → process-cell-lts.Need-enum-told (
 ) (process-cell-at t) process-cell.Post process-cell-Inv-loop process-cell-μ-loop
 process-cell-enum-told t c = search needs
 
--- src/lib.rt:200:36
+-- src/lib.rt
 process-cell-simple-aig-opt-requires : (t : ℕ) → process-cell-lts.Need-simple-aig-opt-requires (
   normalize-reads.Asked,
   normalize-reads.Learnt,
@@ -407,7 +407,7 @@ process-cell-simple-aig-opt-requires : (t : ℕ) → process-cell-lts.Need-simpl
 ) (process-cell-at t) process-cell.Post process-cell-Inv-loop process-cell-μ-loop
 process-cell-simple-aig-opt-requires t c κs = (search forms-fall, search forms-ready)
 
--- src/lib.rt:201:33
+-- src/lib.rt
 process-cell-enum-known-z : (t : ℕ) → process-cell-lts.Need-enum-known-z (
   normalize-reads.Asked,
   normalize-reads.Learnt,
@@ -420,7 +420,7 @@ process-cell-enum-known-z : (t : ℕ) → process-cell-lts.Need-enum-known-z (
 ) (process-cell-at t) process-cell.Post process-cell-Inv-loop process-cell-μ-loop
 process-cell-enum-known-z t c = search needs
 
--- src/lib.rt:201:67
+-- src/lib.rt
 process-cell-asked-requires : (t : ℕ) → process-cell-lts.Need-asked-requires (
   normalize-reads.Asked,
   normalize-reads.Learnt,
@@ -433,7 +433,7 @@ process-cell-asked-requires : (t : ℕ) → process-cell-lts.Need-asked-requires
 ) (process-cell-at t) process-cell.Post process-cell-Inv-loop process-cell-μ-loop
 process-cell-asked-requires t c κs = search forms-held
 
--- src/lib.rt:201:39
+-- src/lib.rt
 process-cell-as-form-requires : (t : ℕ) → process-cell-lts.Need-as-form-requires (
   normalize-reads.Asked,
   normalize-reads.Learnt,
@@ -446,7 +446,7 @@ process-cell-as-form-requires : (t : ℕ) → process-cell-lts.Need-as-form-requ
 ) (process-cell-at t) process-cell.Post process-cell-Inv-loop process-cell-μ-loop
 process-cell-as-form-requires t c κs = search needs
 
--- src/lib.rt:201:39
+-- src/lib.rt
 process-cell-same-length-2 : (t : ℕ) → process-cell-lts.Need-same-length-2 (
   normalize-reads.Asked,
   normalize-reads.Learnt,
@@ -459,7 +459,7 @@ process-cell-same-length-2 : (t : ℕ) → process-cell-lts.Need-same-length-2 (
 ) (process-cell-at t) process-cell.Post process-cell-Inv-loop process-cell-μ-loop
 process-cell-same-length-2 t c = search needs
 
--- src/lib.rt:201:39
+-- src/lib.rt
 process-cell-returns-2 : (t : ℕ) → process-cell-lts.Need-returns-2 (
   normalize-reads.Asked,
   normalize-reads.Learnt,
@@ -472,7 +472,7 @@ process-cell-returns-2 : (t : ℕ) → process-cell-lts.Need-returns-2 (
 ) (process-cell-at t) process-cell.Post process-cell-Inv-loop process-cell-μ-loop
 process-cell-returns-2 t c = search forms-asked
 
--- src/lib.rt:202:33
+-- src/lib.rt
 process-cell-enum-known-e-2 : (t : ℕ) → process-cell-lts.Need-enum-known-e-2 (
   normalize-reads.Asked,
   normalize-reads.Learnt,
@@ -485,7 +485,7 @@ process-cell-enum-known-e-2 : (t : ℕ) → process-cell-lts.Need-enum-known-e-2
 ) (process-cell-at t) process-cell.Post process-cell-Inv-loop process-cell-μ-loop
 process-cell-enum-known-e-2 t c = search needs
 
--- src/lib.rt:193:5
+-- src/lib.rt
 process-cell-loop-less-2 : (t : ℕ) → process-cell-lts.Need-loop-less-2 (
   normalize-reads.Asked,
   normalize-reads.Learnt,
@@ -498,7 +498,7 @@ process-cell-loop-less-2 : (t : ℕ) → process-cell-lts.Need-loop-less-2 (
 ) (process-cell-at t) process-cell.Post process-cell-Inv-loop process-cell-μ-loop
 process-cell-loop-less-2 t c = search forms-less
 
--- src/lib.rt:193:5
+-- src/lib.rt
 process-cell-loop-again-2 : (t : ℕ) → process-cell-lts.Need-loop-again-2 (
   normalize-reads.Asked,
   normalize-reads.Learnt,
@@ -511,7 +511,7 @@ process-cell-loop-again-2 : (t : ℕ) → process-cell-lts.Need-loop-again-2 (
 ) (process-cell-at t) process-cell.Post process-cell-Inv-loop process-cell-μ-loop
 process-cell-loop-again-2 t c = search forms-on
 
--- src/lib.rt:207:34
+-- src/lib.rt
 process-cell-enum-known-n-2 : (t : ℕ) → process-cell-lts.Need-enum-known-n-2 (
   normalize-reads.Asked,
   normalize-reads.Learnt,
@@ -524,7 +524,7 @@ process-cell-enum-known-n-2 : (t : ℕ) → process-cell-lts.Need-enum-known-n-2
 ) (process-cell-at t) process-cell.Post process-cell-Inv-loop process-cell-μ-loop
 process-cell-enum-known-n-2 t c = search needs
 
--- src/lib.rt:207:43
+-- src/lib.rt
 process-cell-same-length-3 : (t : ℕ) → process-cell-lts.Need-same-length-3 (
   normalize-reads.Asked,
   normalize-reads.Learnt,
@@ -537,7 +537,7 @@ process-cell-same-length-3 : (t : ℕ) → process-cell-lts.Need-same-length-3 (
 ) (process-cell-at t) process-cell.Post process-cell-Inv-loop process-cell-μ-loop
 process-cell-same-length-3 t c = search needs
 
--- src/lib.rt:207:43
+-- src/lib.rt
 process-cell-returns-3 : (t : ℕ) → process-cell-lts.Need-returns-3 (
   normalize-reads.Asked,
   normalize-reads.Learnt,
@@ -550,7 +550,7 @@ process-cell-returns-3 : (t : ℕ) → process-cell-lts.Need-returns-3 (
 ) (process-cell-at t) process-cell.Post process-cell-Inv-loop process-cell-μ-loop
 process-cell-returns-3 t c = search forms-value
 
--- src/lib.rt:208:36
+-- src/lib.rt
 process-cell-enum-told-2 : (t : ℕ) → process-cell-lts.Need-enum-told-2 (
   normalize-reads.Asked,
   normalize-reads.Learnt,
@@ -563,7 +563,7 @@ process-cell-enum-told-2 : (t : ℕ) → process-cell-lts.Need-enum-told-2 (
 ) (process-cell-at t) process-cell.Post process-cell-Inv-loop process-cell-μ-loop
 process-cell-enum-told-2 t c = search needs
 
--- src/lib.rt:208:36
+-- src/lib.rt
 process-cell-same-length-4 : (t : ℕ) → process-cell-lts.Need-same-length-4 (
   normalize-reads.Asked,
   normalize-reads.Learnt,
@@ -576,7 +576,7 @@ process-cell-same-length-4 : (t : ℕ) → process-cell-lts.Need-same-length-4 (
 ) (process-cell-at t) process-cell.Post process-cell-Inv-loop process-cell-μ-loop
 process-cell-same-length-4 t c = search needs
 
--- src/lib.rt:208:36
+-- src/lib.rt
 process-cell-returns-4 : (t : ℕ) → process-cell-lts.Need-returns-4 (
   normalize-reads.Asked,
   normalize-reads.Learnt,
@@ -589,7 +589,7 @@ process-cell-returns-4 : (t : ℕ) → process-cell-lts.Need-returns-4 (
 ) (process-cell-at t) process-cell.Post process-cell-Inv-loop process-cell-μ-loop
 process-cell-returns-4 t c = search forms-full
 
--- src/lib.rt:211:32
+-- src/lib.rt
 process-cell-enum-told-3 : (t : ℕ) → process-cell-lts.Need-enum-told-3 (
   normalize-reads.Asked,
   normalize-reads.Learnt,
@@ -602,7 +602,7 @@ process-cell-enum-told-3 : (t : ℕ) → process-cell-lts.Need-enum-told-3 (
 ) (process-cell-at t) process-cell.Post process-cell-Inv-loop process-cell-μ-loop
 process-cell-enum-told-3 t c = search needs
 
--- src/lib.rt:211:32
+-- src/lib.rt
 process-cell-same-length-5 : (t : ℕ) → process-cell-lts.Need-same-length-5 (
   normalize-reads.Asked,
   normalize-reads.Learnt,
@@ -615,7 +615,7 @@ process-cell-same-length-5 : (t : ℕ) → process-cell-lts.Need-same-length-5 (
 ) (process-cell-at t) process-cell.Post process-cell-Inv-loop process-cell-μ-loop
 process-cell-same-length-5 t c = search needs
 
--- src/lib.rt:211:32
+-- src/lib.rt
 process-cell-returns-5 : (t : ℕ) → process-cell-lts.Need-returns-5 (
   normalize-reads.Asked,
   normalize-reads.Learnt,
@@ -628,7 +628,7 @@ process-cell-returns-5 : (t : ℕ) → process-cell-lts.Need-returns-5 (
 ) (process-cell-at t) process-cell.Post process-cell-Inv-loop process-cell-μ-loop
 process-cell-returns-5 t c = absurd (search normalize-no-add)
 
--- src/lib.rt:212:34
+-- src/lib.rt
 process-cell-enum-told-4 : (t : ℕ) → process-cell-lts.Need-enum-told-4 (
   normalize-reads.Asked,
   normalize-reads.Learnt,
@@ -641,7 +641,7 @@ process-cell-enum-told-4 : (t : ℕ) → process-cell-lts.Need-enum-told-4 (
 ) (process-cell-at t) process-cell.Post process-cell-Inv-loop process-cell-μ-loop
 process-cell-enum-told-4 t c = search needs
 
--- src/lib.rt:212:34
+-- src/lib.rt
 process-cell-same-length-6 : (t : ℕ) → process-cell-lts.Need-same-length-6 (
   normalize-reads.Asked,
   normalize-reads.Learnt,
@@ -654,7 +654,7 @@ process-cell-same-length-6 : (t : ℕ) → process-cell-lts.Need-same-length-6 (
 ) (process-cell-at t) process-cell.Post process-cell-Inv-loop process-cell-μ-loop
 process-cell-same-length-6 t c = search needs
 
--- src/lib.rt:212:34
+-- src/lib.rt
 process-cell-returns-6 : (t : ℕ) → process-cell-lts.Need-returns-6 (
   normalize-reads.Asked,
   normalize-reads.Learnt,
@@ -667,7 +667,7 @@ process-cell-returns-6 : (t : ℕ) → process-cell-lts.Need-returns-6 (
 ) (process-cell-at t) process-cell.Post process-cell-Inv-loop process-cell-μ-loop
 process-cell-returns-6 t c = absurd (search normalize-no-not)
 
--- src/lib.rt:213:37
+-- src/lib.rt
 process-cell-enum-told-5 : (t : ℕ) → process-cell-lts.Need-enum-told-5 (
   normalize-reads.Asked,
   normalize-reads.Learnt,
@@ -680,7 +680,7 @@ process-cell-enum-told-5 : (t : ℕ) → process-cell-lts.Need-enum-told-5 (
 ) (process-cell-at t) process-cell.Post process-cell-Inv-loop process-cell-μ-loop
 process-cell-enum-told-5 t c = search needs
 
--- src/lib.rt:213:37
+-- src/lib.rt
 process-cell-same-length-7 : (t : ℕ) → process-cell-lts.Need-same-length-7 (
   normalize-reads.Asked,
   normalize-reads.Learnt,
@@ -693,7 +693,7 @@ process-cell-same-length-7 : (t : ℕ) → process-cell-lts.Need-same-length-7 (
 ) (process-cell-at t) process-cell.Post process-cell-Inv-loop process-cell-μ-loop
 process-cell-same-length-7 t c = search needs
 
--- src/lib.rt:213:37
+-- src/lib.rt
 process-cell-returns-7 : (t : ℕ) → process-cell-lts.Need-returns-7 (
   normalize-reads.Asked,
   normalize-reads.Learnt,
@@ -706,7 +706,7 @@ process-cell-returns-7 : (t : ℕ) → process-cell-lts.Need-returns-7 (
 ) (process-cell-at t) process-cell.Post process-cell-Inv-loop process-cell-μ-loop
 process-cell-returns-7 t c = absurd (search normalize-no-both)
 
--- src/lib.rt:127:9
+-- src/lib.rt
 rewrite-aig-aig-outcome-requires : (t : ℕ) → rewrite-aig-lts.Need-aig-outcome-requires (
   aig-outcome-reads.Asked,
   aig-outcome-reads.Learnt,
@@ -717,7 +717,7 @@ rewrite-aig-aig-outcome-requires : (t : ℕ) → rewrite-aig-lts.Need-aig-outcom
 ) (rewrite-aig-at t) rewrite-aig.Post
 rewrite-aig-aig-outcome-requires t c κs = search needs
 
--- src/lib.rt:129:26
+-- src/lib.rt
 rewrite-aig-enum-told : (t : ℕ) → rewrite-aig-lts.Need-enum-told (
   aig-outcome-reads.Asked,
   aig-outcome-reads.Learnt,
@@ -728,7 +728,7 @@ rewrite-aig-enum-told : (t : ℕ) → rewrite-aig-lts.Need-enum-told (
 ) (rewrite-aig-at t) rewrite-aig.Post
 rewrite-aig-enum-told t c = search needs
 
--- src/lib.rt:130:24
+-- src/lib.rt
 rewrite-aig-enum-known-o : (t : ℕ) → rewrite-aig-lts.Need-enum-known-o (
   aig-outcome-reads.Asked,
   aig-outcome-reads.Learnt,
@@ -739,7 +739,7 @@ rewrite-aig-enum-known-o : (t : ℕ) → rewrite-aig-lts.Need-enum-known-o (
 ) (rewrite-aig-at t) rewrite-aig.Post
 rewrite-aig-enum-known-o t c = search needs
 
--- src/lib.rt:131:23
+-- src/lib.rt
 rewrite-aig-enum-known-o-2 : (t : ℕ) → rewrite-aig-lts.Need-enum-known-o-2 (
   aig-outcome-reads.Asked,
   aig-outcome-reads.Learnt,
@@ -750,7 +750,7 @@ rewrite-aig-enum-known-o-2 : (t : ℕ) → rewrite-aig-lts.Need-enum-known-o-2 (
 ) (rewrite-aig-at t) rewrite-aig.Post
 rewrite-aig-enum-known-o-2 t c = search needs
 
--- src/lib.rt:132:24
+-- src/lib.rt
 rewrite-aig-enum-known-o-3 : (t : ℕ) → rewrite-aig-lts.Need-enum-known-o-3 (
   aig-outcome-reads.Asked,
   aig-outcome-reads.Learnt,
@@ -761,7 +761,7 @@ rewrite-aig-enum-known-o-3 : (t : ℕ) → rewrite-aig-lts.Need-enum-known-o-3 (
 ) (rewrite-aig-at t) rewrite-aig.Post
 rewrite-aig-enum-known-o-3 t c = search needs
 
--- src/lib.rt:132:37
+-- src/lib.rt
 rewrite-aig-add-cell-requires : (t : ℕ) → rewrite-aig-lts.Need-add-cell-requires (
   aig-outcome-reads.Asked,
   aig-outcome-reads.Learnt,
@@ -772,7 +772,7 @@ rewrite-aig-add-cell-requires : (t : ℕ) → rewrite-aig-lts.Need-add-cell-requ
 ) (rewrite-aig-at t) rewrite-aig.Post
 rewrite-aig-add-cell-requires t c κs = (search inverse-falls, search inverse-ready)
 
--- src/lib.rt:132:30
+-- src/lib.rt
 rewrite-aig-as-not-requires : (t : ℕ) → rewrite-aig-lts.Need-as-not-requires (
   aig-outcome-reads.Asked,
   aig-outcome-reads.Learnt,
@@ -783,7 +783,7 @@ rewrite-aig-as-not-requires : (t : ℕ) → rewrite-aig-lts.Need-as-not-requires
 ) (rewrite-aig-at t) rewrite-aig.Post
 rewrite-aig-as-not-requires t c κs = search needs
 
--- src/lib.rt:134:28
+-- src/lib.rt
 rewrite-aig-enum-told-2 : (t : ℕ) → rewrite-aig-lts.Need-enum-told-2 (
   aig-outcome-reads.Asked,
   aig-outcome-reads.Learnt,
@@ -794,7 +794,7 @@ rewrite-aig-enum-told-2 : (t : ℕ) → rewrite-aig-lts.Need-enum-told-2 (
 ) (rewrite-aig-at t) rewrite-aig.Post
 rewrite-aig-enum-told-2 t c = search needs
 
--- src/lib.rt:135:33
+-- src/lib.rt
 rewrite-aig-enum-told-3 : (t : ℕ) → rewrite-aig-lts.Need-enum-told-3 (
   aig-outcome-reads.Asked,
   aig-outcome-reads.Learnt,
@@ -805,7 +805,7 @@ rewrite-aig-enum-told-3 : (t : ℕ) → rewrite-aig-lts.Need-enum-told-3 (
 ) (rewrite-aig-at t) rewrite-aig.Post
 rewrite-aig-enum-told-3 t c = search needs
 
--- src/lib.rt:123:1
+-- src/lib.rt
 rewrite-aig-same-length : (t : ℕ) → rewrite-aig-lts.Need-same-length (
   aig-outcome-reads.Asked,
   aig-outcome-reads.Learnt,
@@ -816,7 +816,7 @@ rewrite-aig-same-length : (t : ℕ) → rewrite-aig-lts.Need-same-length (
 ) (rewrite-aig-at t) rewrite-aig.Post
 rewrite-aig-same-length t c = search needs
 
--- src/lib.rt:123:1
+-- src/lib.rt
 rewrite-aig-returns : (t : ℕ) → rewrite-aig-lts.Need-returns (
   aig-outcome-reads.Asked,
   aig-outcome-reads.Learnt,
@@ -827,7 +827,7 @@ rewrite-aig-returns : (t : ℕ) → rewrite-aig-lts.Need-returns (
 ) (rewrite-aig-at t) rewrite-aig.Post
 rewrite-aig-returns t c = search opted-none
 
--- src/lib.rt:123:1
+-- src/lib.rt
 rewrite-aig-same-length-2 : (t : ℕ) → rewrite-aig-lts.Need-same-length-2 (
   aig-outcome-reads.Asked,
   aig-outcome-reads.Learnt,
@@ -838,7 +838,7 @@ rewrite-aig-same-length-2 : (t : ℕ) → rewrite-aig-lts.Need-same-length-2 (
 ) (rewrite-aig-at t) rewrite-aig.Post
 rewrite-aig-same-length-2 t c = search needs
 
--- src/lib.rt:123:1
+-- src/lib.rt
 rewrite-aig-returns-2 : (t : ℕ) → rewrite-aig-lts.Need-returns-2 (
   aig-outcome-reads.Asked,
   aig-outcome-reads.Learnt,
@@ -849,7 +849,7 @@ rewrite-aig-returns-2 : (t : ℕ) → rewrite-aig-lts.Need-returns-2 (
 ) (rewrite-aig-at t) rewrite-aig.Post
 rewrite-aig-returns-2 t c = search opted-value
 
--- src/lib.rt:123:1
+-- src/lib.rt
 rewrite-aig-same-length-3 : (t : ℕ) → rewrite-aig-lts.Need-same-length-3 (
   aig-outcome-reads.Asked,
   aig-outcome-reads.Learnt,
@@ -860,7 +860,7 @@ rewrite-aig-same-length-3 : (t : ℕ) → rewrite-aig-lts.Need-same-length-3 (
 ) (rewrite-aig-at t) rewrite-aig.Post
 rewrite-aig-same-length-3 t c = search needs
 
--- src/lib.rt:123:1
+-- src/lib.rt
 rewrite-aig-returns-3 : (t : ℕ) → rewrite-aig-lts.Need-returns-3 (
   aig-outcome-reads.Asked,
   aig-outcome-reads.Learnt,
@@ -871,7 +871,7 @@ rewrite-aig-returns-3 : (t : ℕ) → rewrite-aig-lts.Need-returns-3 (
 ) (rewrite-aig-at t) rewrite-aig.Post
 rewrite-aig-returns-3 t c = search opted-form
 
--- src/lib.rt:123:1
+-- src/lib.rt
 rewrite-aig-same-length-4 : (t : ℕ) → rewrite-aig-lts.Need-same-length-4 (
   aig-outcome-reads.Asked,
   aig-outcome-reads.Learnt,
@@ -882,7 +882,7 @@ rewrite-aig-same-length-4 : (t : ℕ) → rewrite-aig-lts.Need-same-length-4 (
 ) (rewrite-aig-at t) rewrite-aig.Post
 rewrite-aig-same-length-4 t c = search needs
 
--- src/lib.rt:123:1
+-- src/lib.rt
 rewrite-aig-returns-4 : (t : ℕ) → rewrite-aig-lts.Need-returns-4 (
   aig-outcome-reads.Asked,
   aig-outcome-reads.Learnt,
@@ -893,7 +893,7 @@ rewrite-aig-returns-4 : (t : ℕ) → rewrite-aig-lts.Need-returns-4 (
 ) (rewrite-aig-at t) rewrite-aig.Post
 rewrite-aig-returns-4 t c = search inverse-performs
 
--- src/lib.rt:123:1
+-- src/lib.rt
 rewrite-aig-same-length-5 : (t : ℕ) → rewrite-aig-lts.Need-same-length-5 (
   aig-outcome-reads.Asked,
   aig-outcome-reads.Learnt,
@@ -904,7 +904,7 @@ rewrite-aig-same-length-5 : (t : ℕ) → rewrite-aig-lts.Need-same-length-5 (
 ) (rewrite-aig-at t) rewrite-aig.Post
 rewrite-aig-same-length-5 t c = search needs
 
--- src/lib.rt:123:1
+-- src/lib.rt
 rewrite-aig-returns-5 : (t : ℕ) → rewrite-aig-lts.Need-returns-5 (
   aig-outcome-reads.Asked,
   aig-outcome-reads.Learnt,
@@ -915,7 +915,7 @@ rewrite-aig-returns-5 : (t : ℕ) → rewrite-aig-lts.Need-returns-5 (
 ) (rewrite-aig-at t) rewrite-aig.Post
 rewrite-aig-returns-5 t c = absurd (search aig-no-add)
 
--- src/lib.rt:123:1
+-- src/lib.rt
 rewrite-aig-same-length-6 : (t : ℕ) → rewrite-aig-lts.Need-same-length-6 (
   aig-outcome-reads.Asked,
   aig-outcome-reads.Learnt,
@@ -926,7 +926,7 @@ rewrite-aig-same-length-6 : (t : ℕ) → rewrite-aig-lts.Need-same-length-6 (
 ) (rewrite-aig-at t) rewrite-aig.Post
 rewrite-aig-same-length-6 t c = search needs
 
--- src/lib.rt:123:1
+-- src/lib.rt
 rewrite-aig-returns-6 : (t : ℕ) → rewrite-aig-lts.Need-returns-6 (
   aig-outcome-reads.Asked,
   aig-outcome-reads.Learnt,
@@ -937,21 +937,21 @@ rewrite-aig-returns-6 : (t : ℕ) → rewrite-aig-lts.Need-returns-6 (
 ) (rewrite-aig-at t) rewrite-aig.Post
 rewrite-aig-returns-6 t c = absurd (search aig-no-both)
 
--- src/lib.rt:70:11
+-- src/lib.rt
 rewrite-and-add-cell-requires : (t : ℕ) → rewrite-and-lts.Need-add-cell-requires (
   add-cell-below t,
   add-cell.Post,
 ) (rewrite-and-at t) rewrite-and.Post
 rewrite-and-add-cell-requires t c κs = (search and-falls, search and-ready)
 
--- src/lib.rt:71:19
+-- src/lib.rt
 rewrite-and-enum-known-n : (t : ℕ) → rewrite-and-lts.Need-enum-known-n (
   add-cell-below t,
   add-cell.Post,
 ) (rewrite-and-at t) rewrite-and.Post
 rewrite-and-enum-known-n t c = search needs
 
--- src/lib.rt:72:24
+-- src/lib.rt
 rewrite-and-enum-told :
     (t : ℕ) →
     rewrite-and-lts.Need-enum-told
@@ -960,14 +960,14 @@ rewrite-and-enum-told :
     rewrite-and.Post
 rewrite-and-enum-told t c = search needs
 
--- src/lib.rt:66:1
+-- src/lib.rt
 rewrite-and-same-length : (t : ℕ) → rewrite-and-lts.Need-same-length (
   add-cell-below t,
   add-cell.Post,
 ) (rewrite-and-at t) rewrite-and.Post
 rewrite-and-same-length t c = search needs
 
--- src/lib.rt:66:1
+-- src/lib.rt
 rewrite-and-returns :
     (t : ℕ) →
     rewrite-and-lts.Need-returns
@@ -976,14 +976,14 @@ rewrite-and-returns :
     rewrite-and.Post
 rewrite-and-returns t c = search and-value
 
--- src/lib.rt:66:1
+-- src/lib.rt
 rewrite-and-same-length-2 : (t : ℕ) → rewrite-and-lts.Need-same-length-2 (
   add-cell-below t,
   add-cell.Post,
 ) (rewrite-and-at t) rewrite-and.Post
 rewrite-and-same-length-2 t c = search needs
 
--- src/lib.rt:66:1
+-- src/lib.rt
 rewrite-and-returns-2 :
     (t : ℕ) →
     rewrite-and-lts.Need-returns-2
@@ -992,7 +992,7 @@ rewrite-and-returns-2 :
     rewrite-and.Post
 rewrite-and-returns-2 t c = search and-full
 
--- src/lib.rt:81:11
+-- src/lib.rt
 rewrite-or-add-cell-requires : (t : ℕ) → rewrite-or-lts.Need-add-cell-requires (
   add-cell-below t,
   add-cell.Post,
@@ -1001,7 +1001,7 @@ rewrite-or-add-cell-requires : (t : ℕ) → rewrite-or-lts.Need-add-cell-requir
 ) (rewrite-or-at t) rewrite-or.Post
 rewrite-or-add-cell-requires t c κs = (search or-falls, search or-ready)
 
--- src/lib.rt:82:19
+-- src/lib.rt
 rewrite-or-enum-known-n : (t : ℕ) → rewrite-or-lts.Need-enum-known-n (
   add-cell-below t,
   add-cell.Post,
@@ -1010,7 +1010,7 @@ rewrite-or-enum-known-n : (t : ℕ) → rewrite-or-lts.Need-enum-known-n (
 ) (rewrite-or-at t) rewrite-or.Post
 rewrite-or-enum-known-n t c = search needs
 
--- src/lib.rt:82:37
+-- src/lib.rt
 rewrite-or-add-cell-requires-2 : (t : ℕ) → rewrite-or-lts.Need-add-cell-requires-2 (
   add-cell-below t,
   add-cell.Post,
@@ -1019,7 +1019,7 @@ rewrite-or-add-cell-requires-2 : (t : ℕ) → rewrite-or-lts.Need-add-cell-requ
 ) (rewrite-or-at t) rewrite-or.Post
 rewrite-or-add-cell-requires-2 t c κs = (search or-not-falls, search or-not-ready)
 
--- src/lib.rt:82:28
+-- src/lib.rt
 rewrite-or-as-value-requires : (t : ℕ) → rewrite-or-lts.Need-as-value-requires (
   add-cell-below t,
   add-cell.Post,
@@ -1028,7 +1028,7 @@ rewrite-or-as-value-requires : (t : ℕ) → rewrite-or-lts.Need-as-value-requir
 ) (rewrite-or-at t) rewrite-or.Post
 rewrite-or-as-value-requires t c κs = search needs
 
--- src/lib.rt:83:24
+-- src/lib.rt
 rewrite-or-enum-told : (t : ℕ) → rewrite-or-lts.Need-enum-told (
   add-cell-below t,
   add-cell.Post,
@@ -1037,7 +1037,7 @@ rewrite-or-enum-told : (t : ℕ) → rewrite-or-lts.Need-enum-told (
 ) (rewrite-or-at t) rewrite-or.Post
 rewrite-or-enum-told t c = search needs
 
--- src/lib.rt:77:1
+-- src/lib.rt
 rewrite-or-same-length : (t : ℕ) → rewrite-or-lts.Need-same-length (
   add-cell-below t,
   add-cell.Post,
@@ -1046,7 +1046,7 @@ rewrite-or-same-length : (t : ℕ) → rewrite-or-lts.Need-same-length (
 ) (rewrite-or-at t) rewrite-or.Post
 rewrite-or-same-length t c = search needs
 
--- src/lib.rt:77:1
+-- src/lib.rt
 rewrite-or-returns : (t : ℕ) → rewrite-or-lts.Need-returns (
   add-cell-below t,
   add-cell.Post,
@@ -1055,7 +1055,7 @@ rewrite-or-returns : (t : ℕ) → rewrite-or-lts.Need-returns (
 ) (rewrite-or-at t) rewrite-or.Post
 rewrite-or-returns t c = search or-performs
 
--- src/lib.rt:77:1
+-- src/lib.rt
 rewrite-or-same-length-2 : (t : ℕ) → rewrite-or-lts.Need-same-length-2 (
   add-cell-below t,
   add-cell.Post,
@@ -1064,7 +1064,7 @@ rewrite-or-same-length-2 : (t : ℕ) → rewrite-or-lts.Need-same-length-2 (
 ) (rewrite-or-at t) rewrite-or.Post
 rewrite-or-same-length-2 t c = search needs
 
--- src/lib.rt:77:1
+-- src/lib.rt
 rewrite-or-returns-2 : (t : ℕ) → rewrite-or-lts.Need-returns-2 (
   add-cell-below t,
   add-cell.Post,
@@ -1073,7 +1073,7 @@ rewrite-or-returns-2 : (t : ℕ) → rewrite-or-lts.Need-returns-2 (
 ) (rewrite-or-at t) rewrite-or.Post
 rewrite-or-returns-2 t c = search or-full
 
--- src/lib.rt:101:9
+-- src/lib.rt
 rewrite-xor-xor-outcome-requires : (t : ℕ) → rewrite-xor-lts.Need-xor-outcome-requires (
   xor-outcome-reads.Asked,
   xor-outcome-reads.Learnt,
@@ -1084,7 +1084,7 @@ rewrite-xor-xor-outcome-requires : (t : ℕ) → rewrite-xor-lts.Need-xor-outcom
 ) (rewrite-xor-at t) rewrite-xor.Post
 rewrite-xor-xor-outcome-requires t c κs = search needs
 
--- src/lib.rt:103:26
+-- src/lib.rt
 rewrite-xor-enum-told : (t : ℕ) → rewrite-xor-lts.Need-enum-told (
   xor-outcome-reads.Asked,
   xor-outcome-reads.Learnt,
@@ -1095,7 +1095,7 @@ rewrite-xor-enum-told : (t : ℕ) → rewrite-xor-lts.Need-enum-told (
 ) (rewrite-xor-at t) rewrite-xor.Post
 rewrite-xor-enum-told t c = search needs
 
--- src/lib.rt:104:24
+-- src/lib.rt
 rewrite-xor-enum-known-o : (t : ℕ) → rewrite-xor-lts.Need-enum-known-o (
   xor-outcome-reads.Asked,
   xor-outcome-reads.Learnt,
@@ -1106,7 +1106,7 @@ rewrite-xor-enum-known-o : (t : ℕ) → rewrite-xor-lts.Need-enum-known-o (
 ) (rewrite-xor-at t) rewrite-xor.Post
 rewrite-xor-enum-known-o t c = search needs
 
--- src/lib.rt:105:23
+-- src/lib.rt
 rewrite-xor-enum-known-o-2 : (t : ℕ) → rewrite-xor-lts.Need-enum-known-o-2 (
   xor-outcome-reads.Asked,
   xor-outcome-reads.Learnt,
@@ -1117,7 +1117,7 @@ rewrite-xor-enum-known-o-2 : (t : ℕ) → rewrite-xor-lts.Need-enum-known-o-2 (
 ) (rewrite-xor-at t) rewrite-xor.Post
 rewrite-xor-enum-known-o-2 t c = search needs
 
--- src/lib.rt:106:24
+-- src/lib.rt
 rewrite-xor-enum-known-o-3 : (t : ℕ) → rewrite-xor-lts.Need-enum-known-o-3 (
   xor-outcome-reads.Asked,
   xor-outcome-reads.Learnt,
@@ -1128,7 +1128,7 @@ rewrite-xor-enum-known-o-3 : (t : ℕ) → rewrite-xor-lts.Need-enum-known-o-3 (
 ) (rewrite-xor-at t) rewrite-xor.Post
 rewrite-xor-enum-known-o-3 t c = search needs
 
--- src/lib.rt:106:37
+-- src/lib.rt
 rewrite-xor-add-cell-requires : (t : ℕ) → rewrite-xor-lts.Need-add-cell-requires (
   xor-outcome-reads.Asked,
   xor-outcome-reads.Learnt,
@@ -1139,7 +1139,7 @@ rewrite-xor-add-cell-requires : (t : ℕ) → rewrite-xor-lts.Need-add-cell-requ
 ) (rewrite-xor-at t) rewrite-xor.Post
 rewrite-xor-add-cell-requires t c κs = (search inverse-falls, search inverse-ready)
 
--- src/lib.rt:106:30
+-- src/lib.rt
 rewrite-xor-as-not-requires : (t : ℕ) → rewrite-xor-lts.Need-as-not-requires (
   xor-outcome-reads.Asked,
   xor-outcome-reads.Learnt,
@@ -1150,7 +1150,7 @@ rewrite-xor-as-not-requires : (t : ℕ) → rewrite-xor-lts.Need-as-not-requires
 ) (rewrite-xor-at t) rewrite-xor.Post
 rewrite-xor-as-not-requires t c κs = search needs
 
--- src/lib.rt:108:28
+-- src/lib.rt
 rewrite-xor-enum-told-2 : (t : ℕ) → rewrite-xor-lts.Need-enum-told-2 (
   xor-outcome-reads.Asked,
   xor-outcome-reads.Learnt,
@@ -1161,7 +1161,7 @@ rewrite-xor-enum-told-2 : (t : ℕ) → rewrite-xor-lts.Need-enum-told-2 (
 ) (rewrite-xor-at t) rewrite-xor.Post
 rewrite-xor-enum-told-2 t c = search needs
 
--- src/lib.rt:109:33
+-- src/lib.rt
 rewrite-xor-enum-told-3 : (t : ℕ) → rewrite-xor-lts.Need-enum-told-3 (
   xor-outcome-reads.Asked,
   xor-outcome-reads.Learnt,
@@ -1172,7 +1172,7 @@ rewrite-xor-enum-told-3 : (t : ℕ) → rewrite-xor-lts.Need-enum-told-3 (
 ) (rewrite-xor-at t) rewrite-xor.Post
 rewrite-xor-enum-told-3 t c = search needs
 
--- src/lib.rt:97:1
+-- src/lib.rt
 rewrite-xor-same-length : (t : ℕ) → rewrite-xor-lts.Need-same-length (
   xor-outcome-reads.Asked,
   xor-outcome-reads.Learnt,
@@ -1183,7 +1183,7 @@ rewrite-xor-same-length : (t : ℕ) → rewrite-xor-lts.Need-same-length (
 ) (rewrite-xor-at t) rewrite-xor.Post
 rewrite-xor-same-length t c = search needs
 
--- src/lib.rt:97:1
+-- src/lib.rt
 rewrite-xor-returns : (t : ℕ) → rewrite-xor-lts.Need-returns (
   xor-outcome-reads.Asked,
   xor-outcome-reads.Learnt,
@@ -1194,7 +1194,7 @@ rewrite-xor-returns : (t : ℕ) → rewrite-xor-lts.Need-returns (
 ) (rewrite-xor-at t) rewrite-xor.Post
 rewrite-xor-returns t c = search opted-none
 
--- src/lib.rt:97:1
+-- src/lib.rt
 rewrite-xor-same-length-2 : (t : ℕ) → rewrite-xor-lts.Need-same-length-2 (
   xor-outcome-reads.Asked,
   xor-outcome-reads.Learnt,
@@ -1205,7 +1205,7 @@ rewrite-xor-same-length-2 : (t : ℕ) → rewrite-xor-lts.Need-same-length-2 (
 ) (rewrite-xor-at t) rewrite-xor.Post
 rewrite-xor-same-length-2 t c = search needs
 
--- src/lib.rt:97:1
+-- src/lib.rt
 rewrite-xor-returns-2 : (t : ℕ) → rewrite-xor-lts.Need-returns-2 (
   xor-outcome-reads.Asked,
   xor-outcome-reads.Learnt,
@@ -1216,7 +1216,7 @@ rewrite-xor-returns-2 : (t : ℕ) → rewrite-xor-lts.Need-returns-2 (
 ) (rewrite-xor-at t) rewrite-xor.Post
 rewrite-xor-returns-2 t c = search opted-value
 
--- src/lib.rt:97:1
+-- src/lib.rt
 rewrite-xor-same-length-3 : (t : ℕ) → rewrite-xor-lts.Need-same-length-3 (
   xor-outcome-reads.Asked,
   xor-outcome-reads.Learnt,
@@ -1227,7 +1227,7 @@ rewrite-xor-same-length-3 : (t : ℕ) → rewrite-xor-lts.Need-same-length-3 (
 ) (rewrite-xor-at t) rewrite-xor.Post
 rewrite-xor-same-length-3 t c = search needs
 
--- src/lib.rt:97:1
+-- src/lib.rt
 rewrite-xor-returns-3 : (t : ℕ) → rewrite-xor-lts.Need-returns-3 (
   xor-outcome-reads.Asked,
   xor-outcome-reads.Learnt,
@@ -1238,7 +1238,7 @@ rewrite-xor-returns-3 : (t : ℕ) → rewrite-xor-lts.Need-returns-3 (
 ) (rewrite-xor-at t) rewrite-xor.Post
 rewrite-xor-returns-3 t c = search opted-form
 
--- src/lib.rt:97:1
+-- src/lib.rt
 rewrite-xor-same-length-4 : (t : ℕ) → rewrite-xor-lts.Need-same-length-4 (
   xor-outcome-reads.Asked,
   xor-outcome-reads.Learnt,
@@ -1249,7 +1249,7 @@ rewrite-xor-same-length-4 : (t : ℕ) → rewrite-xor-lts.Need-same-length-4 (
 ) (rewrite-xor-at t) rewrite-xor.Post
 rewrite-xor-same-length-4 t c = search needs
 
--- src/lib.rt:97:1
+-- src/lib.rt
 rewrite-xor-returns-4 : (t : ℕ) → rewrite-xor-lts.Need-returns-4 (
   xor-outcome-reads.Asked,
   xor-outcome-reads.Learnt,
@@ -1260,7 +1260,7 @@ rewrite-xor-returns-4 : (t : ℕ) → rewrite-xor-lts.Need-returns-4 (
 ) (rewrite-xor-at t) rewrite-xor.Post
 rewrite-xor-returns-4 t c = search inverse-performs
 
--- src/lib.rt:97:1
+-- src/lib.rt
 rewrite-xor-same-length-5 : (t : ℕ) → rewrite-xor-lts.Need-same-length-5 (
   xor-outcome-reads.Asked,
   xor-outcome-reads.Learnt,
@@ -1271,7 +1271,7 @@ rewrite-xor-same-length-5 : (t : ℕ) → rewrite-xor-lts.Need-same-length-5 (
 ) (rewrite-xor-at t) rewrite-xor.Post
 rewrite-xor-same-length-5 t c = search needs
 
--- src/lib.rt:97:1
+-- src/lib.rt
 rewrite-xor-returns-5 : (t : ℕ) → rewrite-xor-lts.Need-returns-5 (
   xor-outcome-reads.Asked,
   xor-outcome-reads.Learnt,
@@ -1282,7 +1282,7 @@ rewrite-xor-returns-5 : (t : ℕ) → rewrite-xor-lts.Need-returns-5 (
 ) (rewrite-xor-at t) rewrite-xor.Post
 rewrite-xor-returns-5 t c = absurd (search xor-no-add)
 
--- src/lib.rt:97:1
+-- src/lib.rt
 rewrite-xor-same-length-6 : (t : ℕ) → rewrite-xor-lts.Need-same-length-6 (
   xor-outcome-reads.Asked,
   xor-outcome-reads.Learnt,
@@ -1293,7 +1293,7 @@ rewrite-xor-same-length-6 : (t : ℕ) → rewrite-xor-lts.Need-same-length-6 (
 ) (rewrite-xor-at t) rewrite-xor.Post
 rewrite-xor-same-length-6 t c = search needs
 
--- src/lib.rt:97:1
+-- src/lib.rt
 rewrite-xor-returns-6 : (t : ℕ) → rewrite-xor-lts.Need-returns-6 (
   xor-outcome-reads.Asked,
   xor-outcome-reads.Learnt,
@@ -1304,7 +1304,7 @@ rewrite-xor-returns-6 : (t : ℕ) → rewrite-xor-lts.Need-returns-6 (
 ) (rewrite-xor-at t) rewrite-xor.Post
 rewrite-xor-returns-6 t c = absurd (search xor-no-both)
 
--- src/lib.rt:145:19
+-- src/lib.rt
 simple-aig-opt-enum-known-c : (t : ℕ) → simple-aig-opt-lts.Need-enum-known-c (
   rewrite-not-reads.Asked,
   rewrite-not-reads.Learnt,
@@ -1319,7 +1319,7 @@ simple-aig-opt-enum-known-c : (t : ℕ) → simple-aig-opt-lts.Need-enum-known-c
 ) (simple-aig-opt-at t) simple-aig-opt.Post
 simple-aig-opt-enum-known-c t c = search needs
 
--- src/lib.rt:145:25
+-- src/lib.rt
 simple-aig-opt-rewrite-not-requires : (t : ℕ) → simple-aig-opt-lts.Need-rewrite-not-requires (
   rewrite-not-reads.Asked,
   rewrite-not-reads.Learnt,
@@ -1334,7 +1334,7 @@ simple-aig-opt-rewrite-not-requires : (t : ℕ) → simple-aig-opt-lts.Need-rewr
 ) (simple-aig-opt-at t) simple-aig-opt.Post
 simple-aig-opt-rewrite-not-requires t c κs = search needs
 
--- src/lib.rt:146:19
+-- src/lib.rt
 simple-aig-opt-enum-known-c-2 : (t : ℕ) → simple-aig-opt-lts.Need-enum-known-c-2 (
   rewrite-not-reads.Asked,
   rewrite-not-reads.Learnt,
@@ -1349,7 +1349,7 @@ simple-aig-opt-enum-known-c-2 : (t : ℕ) → simple-aig-opt-lts.Need-enum-known
 ) (simple-aig-opt-at t) simple-aig-opt.Post
 simple-aig-opt-enum-known-c-2 t c = search needs
 
--- src/lib.rt:146:28
+-- src/lib.rt
 simple-aig-opt-rewrite-aig-requires : (t : ℕ) → simple-aig-opt-lts.Need-rewrite-aig-requires (
   rewrite-not-reads.Asked,
   rewrite-not-reads.Learnt,
@@ -1364,7 +1364,7 @@ simple-aig-opt-rewrite-aig-requires : (t : ℕ) → simple-aig-opt-lts.Need-rewr
 ) (simple-aig-opt-at t) simple-aig-opt.Post
 simple-aig-opt-rewrite-aig-requires t c κs = (search arm-falls, search arm-ready)
 
--- src/lib.rt:147:19
+-- src/lib.rt
 simple-aig-opt-enum-known-c-3 : (t : ℕ) → simple-aig-opt-lts.Need-enum-known-c-3 (
   rewrite-not-reads.Asked,
   rewrite-not-reads.Learnt,
@@ -1379,7 +1379,7 @@ simple-aig-opt-enum-known-c-3 : (t : ℕ) → simple-aig-opt-lts.Need-enum-known
 ) (simple-aig-opt-at t) simple-aig-opt.Post
 simple-aig-opt-enum-known-c-3 t c = search needs
 
--- src/lib.rt:147:28
+-- src/lib.rt
 simple-aig-opt-rewrite-xor-requires : (t : ℕ) → simple-aig-opt-lts.Need-rewrite-xor-requires (
   rewrite-not-reads.Asked,
   rewrite-not-reads.Learnt,
@@ -1394,7 +1394,7 @@ simple-aig-opt-rewrite-xor-requires : (t : ℕ) → simple-aig-opt-lts.Need-rewr
 ) (simple-aig-opt-at t) simple-aig-opt.Post
 simple-aig-opt-rewrite-xor-requires t c κs = (search arm-falls, search arm-ready)
 
--- src/lib.rt:148:19
+-- src/lib.rt
 simple-aig-opt-enum-known-c-4 : (t : ℕ) → simple-aig-opt-lts.Need-enum-known-c-4 (
   rewrite-not-reads.Asked,
   rewrite-not-reads.Learnt,
@@ -1409,7 +1409,7 @@ simple-aig-opt-enum-known-c-4 : (t : ℕ) → simple-aig-opt-lts.Need-enum-known
 ) (simple-aig-opt-at t) simple-aig-opt.Post
 simple-aig-opt-enum-known-c-4 t c = search needs
 
--- src/lib.rt:148:28
+-- src/lib.rt
 simple-aig-opt-rewrite-and-requires : (t : ℕ) → simple-aig-opt-lts.Need-rewrite-and-requires (
   rewrite-not-reads.Asked,
   rewrite-not-reads.Learnt,
@@ -1424,7 +1424,7 @@ simple-aig-opt-rewrite-and-requires : (t : ℕ) → simple-aig-opt-lts.Need-rewr
 ) (simple-aig-opt-at t) simple-aig-opt.Post
 simple-aig-opt-rewrite-and-requires t c κs = (search arm-falls, search arm-ready)
 
--- src/lib.rt:149:18
+-- src/lib.rt
 simple-aig-opt-enum-known-c-5 : (t : ℕ) → simple-aig-opt-lts.Need-enum-known-c-5 (
   rewrite-not-reads.Asked,
   rewrite-not-reads.Learnt,
@@ -1439,7 +1439,7 @@ simple-aig-opt-enum-known-c-5 : (t : ℕ) → simple-aig-opt-lts.Need-enum-known
 ) (simple-aig-opt-at t) simple-aig-opt.Post
 simple-aig-opt-enum-known-c-5 t c = search needs
 
--- src/lib.rt:149:27
+-- src/lib.rt
 simple-aig-opt-rewrite-or-requires : (t : ℕ) → simple-aig-opt-lts.Need-rewrite-or-requires (
   rewrite-not-reads.Asked,
   rewrite-not-reads.Learnt,
@@ -1454,7 +1454,7 @@ simple-aig-opt-rewrite-or-requires : (t : ℕ) → simple-aig-opt-lts.Need-rewri
 ) (simple-aig-opt-at t) simple-aig-opt.Post
 simple-aig-opt-rewrite-or-requires t c κs = (search arm-falls, search arm-ready)
 
--- src/lib.rt:150:27
+-- src/lib.rt
 simple-aig-opt-enum-told : (t : ℕ) → simple-aig-opt-lts.Need-enum-told (
   rewrite-not-reads.Asked,
   rewrite-not-reads.Learnt,
@@ -1469,7 +1469,7 @@ simple-aig-opt-enum-told : (t : ℕ) → simple-aig-opt-lts.Need-enum-told (
 ) (simple-aig-opt-at t) simple-aig-opt.Post
 simple-aig-opt-enum-told t c = search needs
 
--- src/lib.rt:151:31
+-- src/lib.rt
 simple-aig-opt-enum-told-2 : (t : ℕ) → simple-aig-opt-lts.Need-enum-told-2 (
   rewrite-not-reads.Asked,
   rewrite-not-reads.Learnt,
@@ -1484,7 +1484,7 @@ simple-aig-opt-enum-told-2 : (t : ℕ) → simple-aig-opt-lts.Need-enum-told-2 (
 ) (simple-aig-opt-at t) simple-aig-opt.Post
 simple-aig-opt-enum-told-2 t c = search needs
 
--- src/lib.rt:152:25
+-- src/lib.rt
 simple-aig-opt-enum-told-3 : (t : ℕ) → simple-aig-opt-lts.Need-enum-told-3 (
   rewrite-not-reads.Asked,
   rewrite-not-reads.Learnt,
@@ -1499,7 +1499,7 @@ simple-aig-opt-enum-told-3 : (t : ℕ) → simple-aig-opt-lts.Need-enum-told-3 (
 ) (simple-aig-opt-at t) simple-aig-opt.Post
 simple-aig-opt-enum-told-3 t c = search needs
 
--- src/lib.rt:153:31
+-- src/lib.rt
 simple-aig-opt-enum-told-4 : (t : ℕ) → simple-aig-opt-lts.Need-enum-told-4 (
   rewrite-not-reads.Asked,
   rewrite-not-reads.Learnt,
@@ -1514,7 +1514,7 @@ simple-aig-opt-enum-told-4 : (t : ℕ) → simple-aig-opt-lts.Need-enum-told-4 (
 ) (simple-aig-opt-at t) simple-aig-opt.Post
 simple-aig-opt-enum-told-4 t c = search needs
 
--- src/lib.rt:140:1
+-- src/lib.rt
 simple-aig-opt-same-length : (t : ℕ) → simple-aig-opt-lts.Need-same-length (
   rewrite-not-reads.Asked,
   rewrite-not-reads.Learnt,
@@ -1529,7 +1529,7 @@ simple-aig-opt-same-length : (t : ℕ) → simple-aig-opt-lts.Need-same-length (
 ) (simple-aig-opt-at t) simple-aig-opt.Post
 simple-aig-opt-same-length t c = search needs
 
--- src/lib.rt:140:1
+-- src/lib.rt
 simple-aig-opt-returns : (t : ℕ) → simple-aig-opt-lts.Need-returns (
   rewrite-not-reads.Asked,
   rewrite-not-reads.Learnt,
@@ -1544,7 +1544,7 @@ simple-aig-opt-returns : (t : ℕ) → simple-aig-opt-lts.Need-returns (
 ) (simple-aig-opt-at t) simple-aig-opt.Post
 simple-aig-opt-returns t c = search not-performs
 
--- src/lib.rt:140:1
+-- src/lib.rt
 simple-aig-opt-same-length-2 : (t : ℕ) → simple-aig-opt-lts.Need-same-length-2 (
   rewrite-not-reads.Asked,
   rewrite-not-reads.Learnt,
@@ -1559,7 +1559,7 @@ simple-aig-opt-same-length-2 : (t : ℕ) → simple-aig-opt-lts.Need-same-length
 ) (simple-aig-opt-at t) simple-aig-opt.Post
 simple-aig-opt-same-length-2 t c = search needs
 
--- src/lib.rt:140:1
+-- src/lib.rt
 simple-aig-opt-returns-2 : (t : ℕ) → simple-aig-opt-lts.Need-returns-2 (
   rewrite-not-reads.Asked,
   rewrite-not-reads.Learnt,
@@ -1574,7 +1574,7 @@ simple-aig-opt-returns-2 : (t : ℕ) → simple-aig-opt-lts.Need-returns-2 (
 ) (simple-aig-opt-at t) simple-aig-opt.Post
 simple-aig-opt-returns-2 t c = search arm-performs
 
--- src/lib.rt:140:1
+-- src/lib.rt
 simple-aig-opt-same-length-3 : (t : ℕ) → simple-aig-opt-lts.Need-same-length-3 (
   rewrite-not-reads.Asked,
   rewrite-not-reads.Learnt,
@@ -1589,7 +1589,7 @@ simple-aig-opt-same-length-3 : (t : ℕ) → simple-aig-opt-lts.Need-same-length
 ) (simple-aig-opt-at t) simple-aig-opt.Post
 simple-aig-opt-same-length-3 t c = search needs
 
--- src/lib.rt:140:1
+-- src/lib.rt
 simple-aig-opt-returns-3 : (t : ℕ) → simple-aig-opt-lts.Need-returns-3 (
   rewrite-not-reads.Asked,
   rewrite-not-reads.Learnt,
@@ -1604,7 +1604,7 @@ simple-aig-opt-returns-3 : (t : ℕ) → simple-aig-opt-lts.Need-returns-3 (
 ) (simple-aig-opt-at t) simple-aig-opt.Post
 simple-aig-opt-returns-3 t c = search arm-performs
 
--- src/lib.rt:140:1
+-- src/lib.rt
 simple-aig-opt-same-length-4 : (t : ℕ) → simple-aig-opt-lts.Need-same-length-4 (
   rewrite-not-reads.Asked,
   rewrite-not-reads.Learnt,
@@ -1619,7 +1619,7 @@ simple-aig-opt-same-length-4 : (t : ℕ) → simple-aig-opt-lts.Need-same-length
 ) (simple-aig-opt-at t) simple-aig-opt.Post
 simple-aig-opt-same-length-4 t c = search needs
 
--- src/lib.rt:140:1
+-- src/lib.rt
 simple-aig-opt-returns-4 : (t : ℕ) → simple-aig-opt-lts.Need-returns-4 (
   rewrite-not-reads.Asked,
   rewrite-not-reads.Learnt,
@@ -1634,7 +1634,7 @@ simple-aig-opt-returns-4 : (t : ℕ) → simple-aig-opt-lts.Need-returns-4 (
 ) (simple-aig-opt-at t) simple-aig-opt.Post
 simple-aig-opt-returns-4 t c = search arm-performs
 
--- src/lib.rt:140:1
+-- src/lib.rt
 simple-aig-opt-same-length-5 : (t : ℕ) → simple-aig-opt-lts.Need-same-length-5 (
   rewrite-not-reads.Asked,
   rewrite-not-reads.Learnt,
@@ -1649,7 +1649,7 @@ simple-aig-opt-same-length-5 : (t : ℕ) → simple-aig-opt-lts.Need-same-length
 ) (simple-aig-opt-at t) simple-aig-opt.Post
 simple-aig-opt-same-length-5 t c = search needs
 
--- src/lib.rt:140:1
+-- src/lib.rt
 simple-aig-opt-returns-5 : (t : ℕ) → simple-aig-opt-lts.Need-returns-5 (
   rewrite-not-reads.Asked,
   rewrite-not-reads.Learnt,
@@ -1664,7 +1664,7 @@ simple-aig-opt-returns-5 : (t : ℕ) → simple-aig-opt-lts.Need-returns-5 (
 ) (simple-aig-opt-at t) simple-aig-opt.Post
 simple-aig-opt-returns-5 t c = search arm-performs
 
--- src/lib.rt:140:1
+-- src/lib.rt
 simple-aig-opt-returns-6 : (t : ℕ) → simple-aig-opt-lts.Need-returns-6 (
   rewrite-not-reads.Asked,
   rewrite-not-reads.Learnt,
@@ -1679,7 +1679,7 @@ simple-aig-opt-returns-6 : (t : ℕ) → simple-aig-opt-lts.Need-returns-6 (
 ) (simple-aig-opt-at t) simple-aig-opt.Post
 simple-aig-opt-returns-6 t c = search input-performs
 
--- src/lib.rt:140:1
+-- src/lib.rt
 simple-aig-opt-returns-7 : (t : ℕ) → simple-aig-opt-lts.Need-returns-7 (
   rewrite-not-reads.Asked,
   rewrite-not-reads.Learnt,
@@ -1694,7 +1694,7 @@ simple-aig-opt-returns-7 : (t : ℕ) → simple-aig-opt-lts.Need-returns-7 (
 ) (simple-aig-opt-at t) simple-aig-opt.Post
 simple-aig-opt-returns-7 t c = search output-performs
 
--- src/lib.rt:140:1
+-- src/lib.rt
 simple-aig-opt-returns-8 : (t : ℕ) → simple-aig-opt-lts.Need-returns-8 (
   rewrite-not-reads.Asked,
   rewrite-not-reads.Learnt,
@@ -1709,7 +1709,7 @@ simple-aig-opt-returns-8 : (t : ℕ) → simple-aig-opt-lts.Need-returns-8 (
 ) (simple-aig-opt-at t) simple-aig-opt.Post
 simple-aig-opt-returns-8 t c = search buf-performs
 
--- src/lib.rt:140:1
+-- src/lib.rt
 simple-aig-opt-returns-9 : (t : ℕ) → simple-aig-opt-lts.Need-returns-9 (
   rewrite-not-reads.Asked,
   rewrite-not-reads.Learnt,

@@ -9,27 +9,27 @@ use Rattle.and_inverter.proofs.aig_rule.Reads as aig-rule-reads
 use Rattle.rewriter_state.proofs.find_cell.Reads as find-cell-reads
 use Rattle.value.proofs.ControlNet.net.Reads as net-reads
 
--- src/lib.rt:128:51
+-- src/lib.rt
 net-requires : tie.Need-net-requires
 net-requires c κs = search needs
 
--- src/lib.rt:128:9
+-- src/lib.rt
 find-cell-requires : tie.Need-find-cell-requires
 find-cell-requires c κs = search needs
 
--- src/lib.rt:129:51
+-- src/lib.rt
 net-requires-2 : tie.Need-net-requires-2
 net-requires-2 c κs = search needs
 
--- src/lib.rt:129:9
+-- src/lib.rt
 find-cell-requires-2 : tie.Need-find-cell-requires-2
 find-cell-requires-2 c κs = search needs
 
--- src/lib.rt:130:5
+-- src/lib.rt
 aig-rule-requires : tie.Need-aig-rule-requires
 aig-rule-requires c κs = search needs
 
--- src/lib.rt:125:1
+-- src/lib.rt
 returns : tie.Need-returns
 returns c = search aig-arm
 

@@ -5,19 +5,19 @@ use Rattle.rewriter_cycle.proofs.as_value.Tie as tie
 use Rattle.rewriter_cycle.proofs.as_value.Reads as reads
 use Rattle.rewriter_cycle.proofs.as_value.Lts as lts
 
--- src/lib.rt:23:19
+-- src/lib.rt
 enum-known-a : tie.Need-enum-known-a
 enum-known-a c = search needs
 
--- src/lib.rt:24:24
+-- src/lib.rt
 enum-told : tie.Need-enum-told
 enum-told c = search needs
 
--- src/lib.rt:19:1
+-- src/lib.rt
 returns : tie.Need-returns
 returns c = rw (c .before .a .given .1)
 
--- src/lib.rt:19:1
+-- src/lib.rt
 returns-2 : tie.Need-returns-2
 returns-2 c = search needs
 

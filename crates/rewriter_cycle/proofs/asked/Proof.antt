@@ -7,23 +7,23 @@ use Rattle.rewriter_cycle.proofs.asked.Reads as reads
 use Rattle.rewriter_cycle.proofs.asked.Lts as lts
 use Rattle.rewriter_state.proofs.known.Reads as known-reads
 
--- src/lib.rt:166:11
+-- src/lib.rt
 known-requires : tie.Need-known-requires
 known-requires c κs = search needs
 
--- src/lib.rt:167:19
+-- src/lib.rt
 enum-known-n : tie.Need-enum-known-n
 enum-known-n c = search needs
 
--- src/lib.rt:168:27
+-- src/lib.rt
 enum-told : tie.Need-enum-told
 enum-told c = search needs
 
--- src/lib.rt:162:1
+-- src/lib.rt
 returns : tie.Need-returns
 returns c = search asked-found
 
--- src/lib.rt:162:1
+-- src/lib.rt
 returns-2 : tie.Need-returns-2
 returns-2 c = search asked-new
 

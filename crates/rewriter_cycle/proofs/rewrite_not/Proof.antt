@@ -10,19 +10,19 @@ use Rattle.aig.proofs.not_rule.Reads as not-rule-reads
 use Rattle.rewriter_cycle.proofs.unadded.Reads as unadded-reads
 use Rattle.rewriter_state.proofs.find_cell.Reads as find-cell-reads
 
--- src/lib.rt:81:30
+-- src/lib.rt
 find-cell-requires : tie.Need-find-cell-requires
 find-cell-requires c κs = search needs
 
--- src/lib.rt:81:16
+-- src/lib.rt
 not-rule-requires : tie.Need-not-rule-requires
 not-rule-requires c κs = search needs
 
--- src/lib.rt:81:5
+-- src/lib.rt
 unadded-requires : tie.Need-unadded-requires
 unadded-requires c κs = search not-adds
 
--- src/lib.rt:78:1
+-- src/lib.rt
 returns : tie.Need-returns
 returns c = search not-unadded
 

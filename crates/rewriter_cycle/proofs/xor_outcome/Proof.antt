@@ -8,19 +8,19 @@ use Rattle.rewriter_cycle.proofs.xor_outcome.Lts as lts
 use Rattle.rewriter_state.proofs.find_cell.Reads as find-cell-reads
 use Rattle.xor_gate.proofs.xor_rule.Reads as xor-rule-reads
 
--- src/lib.rt:107:9
+-- src/lib.rt
 find-cell-requires : tie.Need-find-cell-requires
 find-cell-requires c κs = search needs
 
--- src/lib.rt:108:9
+-- src/lib.rt
 find-cell-requires-2 : tie.Need-find-cell-requires-2
 find-cell-requires-2 c κs = search needs
 
--- src/lib.rt:109:5
+-- src/lib.rt
 xor-rule-requires : tie.Need-xor-rule-requires
 xor-rule-requires c κs = search needs
 
--- src/lib.rt:104:1
+-- src/lib.rt
 returns : tie.Need-returns
 returns c = search xor-arm
 

@@ -10,27 +10,27 @@ use Rattle.netlist.proofs.put_record.Reads as put-record-reads
 use Rattle.netlist.proofs.record_in.Reads as record-in-reads
 use Rattle.rewriter_state.proofs.stay.Reads as stay-reads
 
--- src/lib.rt:163:15
+-- src/lib.rt
 record-in-requires : tie.Need-record-in-requires
 record-in-requires c κs = search needs
 
--- src/lib.rt:164:34
+-- src/lib.rt
 cell-record-requires : tie.Need-cell-record-requires
 cell-record-requires c κs = search needs
 
--- src/lib.rt:164:5
+-- src/lib.rt
 put-record-requires : tie.Need-put-record-requires
 put-record-requires c κs = search needs
 
--- src/lib.rt:165:5
+-- src/lib.rt
 stay-requires : tie.Need-stay-requires
 stay-requires c κs = search become-ready
 
--- src/lib.rt:159:1
+-- src/lib.rt
 same-length : tie.Need-same-length
 same-length c = search needs
 
--- src/lib.rt:159:1
+-- src/lib.rt
 returns : tie.Need-returns
 returns c = search becomes
 

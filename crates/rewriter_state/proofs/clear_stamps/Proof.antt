@@ -15,39 +15,39 @@ Inv-loop work₀ n s₀ work s = Unstamping n work₀ work s
 abbrev μ-loop : tie.MeasureT-loop
 μ-loop work₀ n s₀ work s = n - s
 
--- src/lib.rt:43:5
+-- src/lib.rt
 loop-holds : tie.Need-loop-holds Inv-loop μ-loop
 loop-holds c = search unstamping-none
 
--- src/lib.rt:44:35
+-- src/lib.rt
 cast-put : tie.Need-cast-put Inv-loop μ-loop
 cast-put c = search needs
 
--- src/lib.rt:44:25
+-- src/lib.rt
 add-put : tie.Need-add-put Inv-loop μ-loop
 add-put c = omega arith
 
--- src/lib.rt:44:9
+-- src/lib.rt
 put-requires : tie.Need-put-requires Inv-loop μ-loop
 put-requires c κs = search needs
 
--- src/lib.rt:45:9
+-- src/lib.rt
 add-s : tie.Need-add-s Inv-loop μ-loop
 add-s c = omega arith
 
--- src/lib.rt:43:5
+-- src/lib.rt
 loop-less : tie.Need-loop-less Inv-loop μ-loop
 loop-less c = omega arith
 
--- src/lib.rt:43:5
+-- src/lib.rt
 loop-again : tie.Need-loop-again Inv-loop μ-loop
 loop-again c = search unstamping-more
 
--- src/lib.rt:37:1
+-- src/lib.rt
 same-length : tie.Need-same-length Inv-loop μ-loop
 same-length c = search needs
 
--- src/lib.rt:37:1
+-- src/lib.rt
 returns : tie.Need-returns Inv-loop μ-loop
 returns c = search unstamping-all
 

@@ -12,59 +12,59 @@ use Rattle.netlist.proofs.put_record.Reads as put-record-reads
 use Rattle.rewriter_state.proofs.remember.Reads as remember-reads
 use Rattle.value.proofs.Net.from_cell_index.Reads as from-cell-index-reads
 
--- src/lib.rt:113:9
+-- src/lib.rt
 returns : tie.Need-returns
 returns c = (search needs, search within-none)
 
--- src/lib.rt:116:34
+-- src/lib.rt
 cell-record-requires : tie.Need-cell-record-requires
 cell-record-requires c κs = search needs
 
--- src/lib.rt:116:5
+-- src/lib.rt
 put-record-requires : tie.Need-put-record-requires
 put-record-requires c κs = search needs
 
--- src/lib.rt:117:5
+-- src/lib.rt
 remember-requires : tie.Need-remember-requires
 remember-requires c κs = search needs
 
--- src/lib.rt:118:31
+-- src/lib.rt
 cast-put : tie.Need-cast-put
 cast-put c = search needs
 
--- src/lib.rt:118:21
+-- src/lib.rt
 add-put : tie.Need-add-put
 add-put c = search needs
 
--- src/lib.rt:118:50
+-- src/lib.rt
 add-put-2 : tie.Need-add-put-2
 add-put-2 c = search needs
 
--- src/lib.rt:118:5
+-- src/lib.rt
 put-requires : tie.Need-put-requires
 put-requires c κs = search needs
 
--- src/lib.rt:121:16
+-- src/lib.rt
 add-t17 : tie.Need-add-t17
 add-t17 c = search needs
 
--- src/lib.rt:122:18
+-- src/lib.rt
 add-t18 : tie.Need-add-t18
 add-t18 c = search needs
 
--- src/lib.rt:123:16
+-- src/lib.rt
 add-t19 : tie.Need-add-t19
 add-t19 c = search needs
 
--- src/lib.rt:125:15
+-- src/lib.rt
 from-cell-index-requires : tie.Need-from-cell-index-requires
 from-cell-index-requires c κs = search needs
 
--- src/lib.rt:108:1
+-- src/lib.rt
 same-length : tie.Need-same-length
 same-length c = search needs
 
--- src/lib.rt:108:1
+-- src/lib.rt
 returns-2 : tie.Need-returns-2
 returns-2 c = search enters
 

@@ -8,19 +8,19 @@ use Rattle.rewriter_state.proofs.find_cell.Lts as lts
 use Rattle.rewriter_state.proofs.find_new_cell.Reads as find-new-cell-reads
 use Rattle.rewriter_state.proofs.stamp_of.Reads as stamp-of-reads
 
--- src/lib.rt:83:8
+-- src/lib.rt
 stamp-of-requires : tie.Need-stamp-of-requires
 stamp-of-requires c κs = search needs
 
--- src/lib.rt:84:9
+-- src/lib.rt
 returns : tie.Need-returns
 returns c = search unstamped
 
--- src/lib.rt:86:5
+-- src/lib.rt
 find-new-cell-requires : tie.Need-find-new-cell-requires
 find-new-cell-requires c κs = search needs
 
--- src/lib.rt:80:1
+-- src/lib.rt
 returns-2 : tie.Need-returns-2
 returns-2 c = search stamped
 

@@ -9,35 +9,35 @@ use Rattle.design.proofs.queue.map_net_new.Reads as map-net-new-reads
 use Rattle.netlist.proofs.cell_in.Reads as cell-in-reads
 use Rattle.value.proofs.Net.as_cell_index.Reads as as-cell-index-reads
 
--- src/lib.rt:68:11
+-- src/lib.rt
 map-net-new-requires : tie.Need-map-net-new-requires
 map-net-new-requires c κs = search needs
 
--- src/lib.rt:68:11
+-- src/lib.rt
 as-cell-index-requires : tie.Need-as-cell-index-requires
 as-cell-index-requires c κs = search needs
 
--- src/lib.rt:69:29
+-- src/lib.rt
 enum-told : tie.Need-enum-told
 enum-told c = search needs
 
--- src/lib.rt:70:22
+-- src/lib.rt
 enum-known-s : tie.Need-enum-known-s
 enum-known-s c = search needs
 
--- src/lib.rt:72:38
+-- src/lib.rt
 cell-in-requires : tie.Need-cell-in-requires
 cell-in-requires c κs = search needs
 
--- src/lib.rt:72:17
+-- src/lib.rt
 returns : tie.Need-returns
 returns c = search source-cell
 
--- src/lib.rt:65:1
+-- src/lib.rt
 returns-2 : tie.Need-returns-2
 returns-2 c = search source-const
 
--- src/lib.rt:65:1
+-- src/lib.rt
 returns-3 : tie.Need-returns-3
 returns-3 c = search source-past
 

@@ -9,15 +9,15 @@ use Rattle.rewriter_state.proofs.known.Lts as lts
 use Rattle.cell.proofs.cell_record.Reads as cell-record-reads
 use Rattle.numberer.proofs.find.Reads as find-reads
 
--- src/lib.rt:94:37
+-- src/lib.rt
 cell-record-requires : tie.Need-cell-record-requires
 cell-record-requires c κs = search needs
 
--- src/lib.rt:94:5
+-- src/lib.rt
 find-requires : tie.Need-find-requires
 find-requires c κs = (search needs, (search few-entries, (search needs, (search needs, search is-cell))))
 
--- src/lib.rt:90:1
+-- src/lib.rt
 returns : tie.Need-returns
 returns c = search known-cell
 

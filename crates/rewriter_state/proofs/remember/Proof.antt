@@ -9,23 +9,23 @@ use Rattle.rewriter_state.proofs.remember.Lts as lts
 use Rattle.cell.proofs.cell_record.Reads as cell-record-reads
 use Rattle.numberer.proofs.insert.Reads as insert-reads
 
--- src/lib.rt:104:57
+-- src/lib.rt
 cast-cell-record : tie.Need-cast-cell-record
 cast-cell-record c = omega arith
 
--- src/lib.rt:104:39
+-- src/lib.rt
 cell-record-requires : tie.Need-cell-record-requires
 cell-record-requires c κs = search needs
 
--- src/lib.rt:104:5
+-- src/lib.rt
 insert-requires : tie.Need-insert-requires
 insert-requires c κs = search needs
 
--- src/lib.rt:98:1
+-- src/lib.rt
 same-length : tie.Need-same-length
 same-length c = search needs
 
--- src/lib.rt:98:1
+-- src/lib.rt
 returns : tie.Need-returns
 returns c = search inserts
 

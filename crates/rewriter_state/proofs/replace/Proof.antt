@@ -8,35 +8,35 @@ use Rattle.rewriter_state.proofs.replace.Lts as lts
 use Rattle.cell.proofs.put.Reads as put-reads
 use Rattle.design.proofs.queue.replace_net.Reads as replace-net-reads
 
--- src/lib.rt:133:5
+-- src/lib.rt
 replace-net-requires : tie.Need-replace-net-requires
 replace-net-requires c κs = search needs
 
--- src/lib.rt:134:31
+-- src/lib.rt
 cast-put : tie.Need-cast-put
 cast-put c = search needs
 
--- src/lib.rt:134:21
+-- src/lib.rt
 add-put : tie.Need-add-put
 add-put c = search needs
 
--- src/lib.rt:134:46
+-- src/lib.rt
 add-put-2 : tie.Need-add-put-2
 add-put-2 c = search needs
 
--- src/lib.rt:134:5
+-- src/lib.rt
 put-requires : tie.Need-put-requires
 put-requires c κs = search needs
 
--- src/lib.rt:139:16
+-- src/lib.rt
 add-t12 : tie.Need-add-t12
 add-t12 c = search needs
 
--- src/lib.rt:129:1
+-- src/lib.rt
 same-length : tie.Need-same-length
 same-length c = search needs
 
--- src/lib.rt:129:1
+-- src/lib.rt
 returns : tie.Need-returns
 returns c = search replaces
 

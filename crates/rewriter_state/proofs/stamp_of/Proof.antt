@@ -8,39 +8,39 @@ use Rattle.rewriter_state.proofs.stamp_of.Lts as lts
 use Rattle.cell.proofs.word.Reads as word-reads
 use Rattle.value.proofs.Net.as_cell_index.Reads as as-cell-index-reads
 
--- src/lib.rt:53:11
+-- src/lib.rt
 as-cell-index-requires : tie.Need-as-cell-index-requires
 as-cell-index-requires c κs = search needs
 
--- src/lib.rt:54:29
+-- src/lib.rt
 enum-told : tie.Need-enum-told
 enum-told c = search needs
 
--- src/lib.rt:55:22
+-- src/lib.rt
 enum-known-s : tie.Need-enum-known-s
 enum-known-s c = search needs
 
--- src/lib.rt:57:51
+-- src/lib.rt
 cast-word : tie.Need-cast-word
 cast-word c = search needs
 
--- src/lib.rt:57:41
+-- src/lib.rt
 add-word : tie.Need-add-word
 add-word c = search needs
 
--- src/lib.rt:57:17
+-- src/lib.rt
 word-requires : tie.Need-word-requires
 word-requires c κs = search needs
 
--- src/lib.rt:57:17
+-- src/lib.rt
 returns : tie.Need-returns
 returns c = search stamp-cell
 
--- src/lib.rt:50:1
+-- src/lib.rt
 returns-2 : tie.Need-returns-2
 returns-2 c = search stamp-const
 
--- src/lib.rt:50:1
+-- src/lib.rt
 returns-3 : tie.Need-returns-3
 returns-3 c = search stamp-past
 

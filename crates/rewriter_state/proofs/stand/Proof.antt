@@ -16,43 +16,43 @@ Inv-loop work₀ x s₀ work s = Standing x work₀ work s
 abbrev μ-loop : tie.MeasureT-loop
 μ-loop work₀ x s₀ work s = x .slots - s
 
--- src/lib.rt:174:5
+-- src/lib.rt
 loop-holds : tie.Need-loop-holds Inv-loop μ-loop
 loop-holds c = search standing-none
 
--- src/lib.rt:175:13
+-- src/lib.rt
 from-cell-index-requires : tie.Need-from-cell-index-requires Inv-loop μ-loop
 from-cell-index-requires c κs = omega arith
 
--- src/lib.rt:176:37
+-- src/lib.rt
 cast-put : tie.Need-cast-put Inv-loop μ-loop
 cast-put c = search needs
 
--- src/lib.rt:176:25
+-- src/lib.rt
 add-put : tie.Need-add-put Inv-loop μ-loop
 add-put c = omega arith
 
--- src/lib.rt:176:9
+-- src/lib.rt
 put-requires : tie.Need-put-requires Inv-loop μ-loop
 put-requires c κs = search needs
 
--- src/lib.rt:177:9
+-- src/lib.rt
 add-s : tie.Need-add-s Inv-loop μ-loop
 add-s c = omega arith
 
--- src/lib.rt:174:5
+-- src/lib.rt
 loop-less : tie.Need-loop-less Inv-loop μ-loop
 loop-less c = omega arith
 
--- src/lib.rt:174:5
+-- src/lib.rt
 loop-again : tie.Need-loop-again Inv-loop μ-loop
 loop-again c = search standing-more
 
--- src/lib.rt:169:1
+-- src/lib.rt
 same-length : tie.Need-same-length Inv-loop μ-loop
 same-length c = search needs
 
--- src/lib.rt:169:1
+-- src/lib.rt
 returns : tie.Need-returns Inv-loop μ-loop
 returns c = search standing-all
 

@@ -8,39 +8,39 @@ use Rattle.rewriter_state.proofs.stay.Lts as lts
 use Rattle.cell.proofs.put.Reads as put-reads
 use Rattle.rewriter_state.proofs.remember.Reads as remember-reads
 
--- src/lib.rt:148:5
+-- src/lib.rt
 remember-requires : tie.Need-remember-requires
 remember-requires c κs = search needs
 
--- src/lib.rt:149:31
+-- src/lib.rt
 cast-put : tie.Need-cast-put
 cast-put c = search needs
 
--- src/lib.rt:149:21
+-- src/lib.rt
 add-put : tie.Need-add-put
 add-put c = search needs
 
--- src/lib.rt:149:46
+-- src/lib.rt
 add-put-2 : tie.Need-add-put-2
 add-put-2 c = search needs
 
--- src/lib.rt:149:5
+-- src/lib.rt
 put-requires : tie.Need-put-requires
 put-requires c κs = search needs
 
--- src/lib.rt:153:18
+-- src/lib.rt
 add-t12 : tie.Need-add-t12
 add-t12 c = search needs
 
--- src/lib.rt:154:16
+-- src/lib.rt
 add-t13 : tie.Need-add-t13
 add-t13 c = search needs
 
--- src/lib.rt:144:1
+-- src/lib.rt
 same-length : tie.Need-same-length
 same-length c = search needs
 
--- src/lib.rt:144:1
+-- src/lib.rt
 returns : tie.Need-returns
 returns c = search stays
 

@@ -7,19 +7,19 @@ use Rattle.ticket.proofs.cabbagetier_check.Lts as lts
 use Rattle.check_call.proofs.check.Reads as check-reads
 use Rattle.check_call.proofs.tell_checked.Reads as tell-checked-reads
 
--- src/lib.rt:15:9
+-- src/lib.rt
 check-requires : tie.Need-check-requires
 check-requires c κs = search needs
 
--- src/lib.rt:16:5
+-- src/lib.rt
 tell-checked-requires : tie.Need-tell-checked-requires
 tell-checked-requires c κs = search needs
 
--- src/lib.rt:9:1
+-- src/lib.rt
 same-length : tie.Need-same-length
 same-length c = search needs
 
--- src/lib.rt:9:1
+-- src/lib.rt
 returns : tie.Need-returns
 returns c = (cc, (search needs, cc))
 

@@ -7,23 +7,23 @@ use Rattle.ticket.proofs.cabbagetier_compact.Lts as lts
 use Rattle.compact_call.proofs.compact.Reads as compact-reads
 use Rattle.delivery.proofs.tell_written.Reads as tell-written-reads
 
--- src/lib.rt:48:9
+-- src/lib.rt
 compact-requires : tie.Need-compact-requires
 compact-requires c κs = search needs
 
--- src/lib.rt:49:5
+-- src/lib.rt
 tell-written-requires : tie.Need-tell-written-requires
 tell-written-requires c κs = search needs
 
--- src/lib.rt:36:1
+-- src/lib.rt
 same-length : tie.Need-same-length
 same-length c = search needs
 
--- src/lib.rt:36:1
+-- src/lib.rt
 same-length-2 : tie.Need-same-length-2
 same-length-2 c = search needs
 
--- src/lib.rt:36:1
+-- src/lib.rt
 returns : tie.Need-returns
 returns c = (cc, (search needs, (search needs, cc)))
 

@@ -7,23 +7,23 @@ use Rattle.ticket.proofs.cabbagetier_levels.Lts as lts
 use Rattle.delivery.proofs.tell_written.Reads as tell-written-reads
 use Rattle.levels_call.proofs.levels.Reads as levels-reads
 
--- src/lib.rt:32:9
+-- src/lib.rt
 levels-requires : tie.Need-levels-requires
 levels-requires c κs = search needs
 
--- src/lib.rt:33:5
+-- src/lib.rt
 tell-written-requires : tie.Need-tell-written-requires
 tell-written-requires c κs = search needs
 
--- src/lib.rt:19:1
+-- src/lib.rt
 same-length : tie.Need-same-length
 same-length c = search needs
 
--- src/lib.rt:19:1
+-- src/lib.rt
 same-length-2 : tie.Need-same-length-2
 same-length-2 c = search needs
 
--- src/lib.rt:19:1
+-- src/lib.rt
 returns : tie.Need-returns
 returns c = (cc, (search needs, (search needs, cc)))
 

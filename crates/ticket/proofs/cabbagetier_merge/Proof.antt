@@ -7,23 +7,23 @@ use Rattle.ticket.proofs.cabbagetier_merge.Lts as lts
 use Rattle.merge_call.proofs.merge.Reads as merge-reads
 use Rattle.merge_call.proofs.tell_merged.Reads as tell-merged-reads
 
--- src/lib.rt:64:9
+-- src/lib.rt
 merge-requires : tie.Need-merge-requires
 merge-requires c κs = search needs
 
--- src/lib.rt:65:5
+-- src/lib.rt
 tell-merged-requires : tie.Need-tell-merged-requires
 tell-merged-requires c κs = search needs
 
--- src/lib.rt:52:1
+-- src/lib.rt
 same-length : tie.Need-same-length
 same-length c = search needs
 
--- src/lib.rt:52:1
+-- src/lib.rt
 same-length-2 : tie.Need-same-length-2
 same-length-2 c = search needs
 
--- src/lib.rt:52:1
+-- src/lib.rt
 returns : tie.Need-returns
 returns c = (cc, (search needs, (search needs, cc)))
 

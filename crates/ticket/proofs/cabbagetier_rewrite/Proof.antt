@@ -7,23 +7,23 @@ use Rattle.ticket.proofs.cabbagetier_rewrite.Lts as lts
 use Rattle.delivery.proofs.tell_written.Reads as tell-written-reads
 use Rattle.rewrite_call.proofs.rewrite.Reads as rewrite-reads
 
--- src/lib.rt:80:9
+-- src/lib.rt
 rewrite-requires : tie.Need-rewrite-requires
 rewrite-requires c κs = search needs
 
--- src/lib.rt:81:5
+-- src/lib.rt
 tell-written-requires : tie.Need-tell-written-requires
 tell-written-requires c κs = search needs
 
--- src/lib.rt:68:1
+-- src/lib.rt
 same-length : tie.Need-same-length
 same-length c = search needs
 
--- src/lib.rt:68:1
+-- src/lib.rt
 same-length-2 : tie.Need-same-length-2
 same-length-2 c = search needs
 
--- src/lib.rt:68:1
+-- src/lib.rt
 returns : tie.Need-returns
 returns c = (cc, (search needs, (search needs, cc)))
 

@@ -8,33 +8,33 @@ use Rattle.xor_gate.proofs.and_xor.Lts as lts
 use Rattle.value.proofs.ControlNet.not.Reads as not-reads
 use Rattle.value.proofs.control_eq.Reads as control-eq-reads
 
--- src/lib.rt:21:8
+-- src/lib.rt
 control-eq-requires : tie.Need-control-eq-requires
 control-eq-requires c κs = search needs
 
--- src/lib.rt:22:44
+-- src/lib.rt
 not-requires : tie.Need-not-requires
 not-requires c κs = search needs
 
--- src/lib.rt:22:9
+-- src/lib.rt
 returns : tie.Need-returns
 unfolding andXor
 returns c = search held
 
--- src/lib.rt:24:8
+-- src/lib.rt
 control-eq-requires-2 : tie.Need-control-eq-requires-2
 control-eq-requires-2 c κs = search needs
 
--- src/lib.rt:25:45
+-- src/lib.rt
 not-requires-2 : tie.Need-not-requires-2
 not-requires-2 c κs = search needs
 
--- src/lib.rt:25:9
+-- src/lib.rt
 returns-2 : tie.Need-returns-2
 unfolding andXor
 returns-2 c = search (failed, held-last)
 
--- src/lib.rt:18:1
+-- src/lib.rt
 returns-3 : tie.Need-returns-3
 unfolding andXor
 returns-3 c = search (failed, failed-last)

@@ -7,23 +7,23 @@ use Rattle.xor_gate.proofs.and_xor_either.Lts as lts
 use Rattle.normalize.proofs.applies.Reads as applies-reads
 use Rattle.xor_gate.proofs.and_xor.Reads as and-xor-reads
 
--- src/lib.rt:33:9
+-- src/lib.rt
 and-xor-requires : tie.Need-and-xor-requires
 and-xor-requires c κs = search needs
 
--- src/lib.rt:34:8
+-- src/lib.rt
 applies-requires : tie.Need-applies-requires
 applies-requires c κs = search needs
 
--- src/lib.rt:35:9
+-- src/lib.rt
 returns : tie.Need-returns
 returns c = search first
 
--- src/lib.rt:37:5
+-- src/lib.rt
 and-xor-requires-2 : tie.Need-and-xor-requires-2
 and-xor-requires-2 c κs = search needs
 
--- src/lib.rt:30:1
+-- src/lib.rt
 returns-2 : tie.Need-returns-2
 returns-2 c = search second
 

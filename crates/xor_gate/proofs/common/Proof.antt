@@ -6,15 +6,15 @@ use Rattle.xor_gate.proofs.common.Reads as reads
 use Rattle.xor_gate.proofs.common.Lts as lts
 use Rattle.value.proofs.net_eq.Reads as net-eq-reads
 
--- src/lib.rt:44:8
+-- src/lib.rt
 net-eq-requires : tie.Need-net-eq-requires
 net-eq-requires c κs = search needs
 
--- src/lib.rt:45:9
+-- src/lib.rt
 returns : tie.Need-returns
 returns c = search held-last
 
--- src/lib.rt:41:1
+-- src/lib.rt
 returns-2 : tie.Need-returns-2
 returns-2 c = search failed-last
 

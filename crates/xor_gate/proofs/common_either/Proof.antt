@@ -7,23 +7,23 @@ use Rattle.xor_gate.proofs.common_either.Lts as lts
 use Rattle.normalize.proofs.applies.Reads as applies-reads
 use Rattle.xor_gate.proofs.common.Reads as common-reads
 
--- src/lib.rt:53:9
+-- src/lib.rt
 common-requires : tie.Need-common-requires
 common-requires c κs = search needs
 
--- src/lib.rt:54:8
+-- src/lib.rt
 applies-requires : tie.Need-applies-requires
 applies-requires c κs = search needs
 
--- src/lib.rt:55:9
+-- src/lib.rt
 returns : tie.Need-returns
 returns c = search first
 
--- src/lib.rt:57:5
+-- src/lib.rt
 common-requires-2 : tie.Need-common-requires-2
 common-requires-2 c κs = search needs
 
--- src/lib.rt:50:1
+-- src/lib.rt
 returns-2 : tie.Need-returns-2
 returns-2 c = search second
 

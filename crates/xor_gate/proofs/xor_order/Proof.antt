@@ -8,47 +8,47 @@ use Rattle.xor_gate.proofs.xor_order.Lts as lts
 use Rattle.value.proofs.net_eq.Reads as net-eq-reads
 use Rattle.xor_gate.proofs.xor_of_gate.Reads as xor-of-gate-reads
 
--- src/lib.rt:112:8
+-- src/lib.rt
 net-eq-requires : tie.Need-net-eq-requires
 net-eq-requires c κs = search needs
 
--- src/lib.rt:113:9
+-- src/lib.rt
 returns : tie.Need-returns
 unfolding xorOrder
 returns c = search held
 
--- src/lib.rt:115:8
+-- src/lib.rt
 net-eq-requires-2 : tie.Need-net-eq-requires-2
 net-eq-requires-2 c κs = search needs
 
--- src/lib.rt:116:9
+-- src/lib.rt
 returns-2 : tie.Need-returns-2
 unfolding xorOrder
 returns-2 c = search (failed, held)
 
--- src/lib.rt:118:8
+-- src/lib.rt
 net-eq-requires-3 : tie.Need-net-eq-requires-3
 net-eq-requires-3 c κs = search needs
 
--- src/lib.rt:119:9
+-- src/lib.rt
 returns-3 : tie.Need-returns-3
 unfolding xorOrder
 returns-3 c = search (failed, held)
 
--- src/lib.rt:121:8
+-- src/lib.rt
 net-eq-requires-4 : tie.Need-net-eq-requires-4
 net-eq-requires-4 c κs = search needs
 
--- src/lib.rt:122:9
+-- src/lib.rt
 returns-4 : tie.Need-returns-4
 unfolding xorOrder
 returns-4 c = search (failed, held)
 
--- src/lib.rt:124:5
+-- src/lib.rt
 xor-of-gate-requires : tie.Need-xor-of-gate-requires
 xor-of-gate-requires c κs = search needs
 
--- src/lib.rt:109:1
+-- src/lib.rt
 returns-5 : tie.Need-returns-5
 unfolding xorOrder
 returns-5 c = search failed

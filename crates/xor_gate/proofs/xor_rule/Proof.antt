@@ -8,24 +8,24 @@ use Rattle.xor_gate.proofs.xor_rule.Lts as lts
 use Rattle.normalize.proofs.applies.Reads as applies-reads
 use Rattle.xor_gate.proofs.xor_order.Reads as xor-order-reads
 
--- src/lib.rt:131:9
+-- src/lib.rt
 xor-order-requires : tie.Need-xor-order-requires
 xor-order-requires c κs = search needs
 
--- src/lib.rt:132:8
+-- src/lib.rt
 applies-requires : tie.Need-applies-requires
 applies-requires c κs = search needs
 
--- src/lib.rt:133:9
+-- src/lib.rt
 returns : tie.Need-returns
 unfolding xorRule
 returns c = search first
 
--- src/lib.rt:135:5
+-- src/lib.rt
 xor-order-requires-2 : tie.Need-xor-order-requires-2
 xor-order-requires-2 c κs = search needs
 
--- src/lib.rt:128:1
+-- src/lib.rt
 returns-2 : tie.Need-returns-2
 unfolding xorRule
 returns-2 c = search second

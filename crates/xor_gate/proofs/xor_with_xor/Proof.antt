@@ -7,27 +7,27 @@ use Rattle.xor_gate.proofs.xor_with_xor.Lts as lts
 use Rattle.aig.proofs.source.xor_in.Reads as xor-in-reads
 use Rattle.xor_gate.proofs.common_either.Reads as common-either-reads
 
--- src/lib.rt:63:11
+-- src/lib.rt
 xor-in-requires : tie.Need-xor-in-requires
 xor-in-requires c κs = search needs
 
--- src/lib.rt:64:21
+-- src/lib.rt
 enum-known-b1 : tie.Need-enum-known-b1
 enum-known-b1 c = search needs
 
--- src/lib.rt:64:32
+-- src/lib.rt
 common-either-requires : tie.Need-common-either-requires
 common-either-requires c κs = search needs
 
--- src/lib.rt:65:27
+-- src/lib.rt
 enum-told : tie.Need-enum-told
 enum-told c = search needs
 
--- src/lib.rt:60:1
+-- src/lib.rt
 returns : tie.Need-returns
 returns c = search of-xor
 
--- src/lib.rt:60:1
+-- src/lib.rt
 returns-2 : tie.Need-returns-2
 returns-2 c = search no-xor
 

@@ -8,20 +8,20 @@ use Rattle.xor_gate.proofs.xor_xor.Lts as lts
 use Rattle.value.proofs.net_eq.Reads as net-eq-reads
 use Rattle.xor_gate.proofs.xor_with_xor.Reads as xor-with-xor-reads
 
--- src/lib.rt:73:8
+-- src/lib.rt
 net-eq-requires : tie.Need-net-eq-requires
 net-eq-requires c κs = search needs
 
--- src/lib.rt:74:9
+-- src/lib.rt
 returns : tie.Need-returns
 unfolding xorXor
 returns c = search held
 
--- src/lib.rt:76:5
+-- src/lib.rt
 xor-with-xor-requires : tie.Need-xor-with-xor-requires
 xor-with-xor-requires c κs = search needs
 
--- src/lib.rt:70:1
+-- src/lib.rt
 returns-2 : tie.Need-returns-2
 unfolding xorXor
 returns-2 c = search failed

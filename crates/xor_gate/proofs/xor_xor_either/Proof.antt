@@ -7,23 +7,23 @@ use Rattle.xor_gate.proofs.xor_xor_either.Lts as lts
 use Rattle.normalize.proofs.applies.Reads as applies-reads
 use Rattle.xor_gate.proofs.xor_xor.Reads as xor-xor-reads
 
--- src/lib.rt:82:9
+-- src/lib.rt
 xor-xor-requires : tie.Need-xor-xor-requires
 xor-xor-requires c κs = search needs
 
--- src/lib.rt:83:8
+-- src/lib.rt
 applies-requires : tie.Need-applies-requires
 applies-requires c κs = search needs
 
--- src/lib.rt:84:9
+-- src/lib.rt
 returns : tie.Need-returns
 returns c = search first
 
--- src/lib.rt:86:5
+-- src/lib.rt
 xor-xor-requires-2 : tie.Need-xor-xor-requires-2
 xor-xor-requires-2 c κs = search needs
 
--- src/lib.rt:79:1
+-- src/lib.rt
 returns-2 : tie.Need-returns-2
 returns-2 c = search second
 

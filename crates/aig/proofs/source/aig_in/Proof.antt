@@ -5,96 +5,96 @@ use Rattle.aig.proofs.source.aig_in.Tie as tie
 use Rattle.aig.proofs.source.aig_in.Reads as reads
 use Rattle.aig.proofs.source.aig_in.Lts as lts
 
--- src/source.rt:33:27
+-- src/source.rt
 enum-told : tie.Need-enum-told
 enum-told c = search needs
 
--- src/source.rt:34:23
+-- src/source.rt
 enum-known-src : tie.Need-enum-known-src
 enum-known-src c = search needs
 
--- src/source.rt:35:23
+-- src/source.rt
 enum-known-c : tie.Need-enum-known-c
 enum-known-c c = search needs
 
--- src/source.rt:36:31
+-- src/source.rt
 enum-told-2 : tie.Need-enum-told-2
 enum-told-2 c = search needs
 
--- src/source.rt:37:35
+-- src/source.rt
 enum-told-3 : tie.Need-enum-told-3
 enum-told-3 c = search needs
 
--- src/source.rt:38:29
+-- src/source.rt
 enum-told-4 : tie.Need-enum-told-4
 enum-told-4 c = search needs
 
--- src/source.rt:39:29
+-- src/source.rt
 enum-told-5 : tie.Need-enum-told-5
 enum-told-5 c = search needs
 
--- src/source.rt:40:32
+-- src/source.rt
 enum-told-6 : tie.Need-enum-told-6
 enum-told-6 c = search needs
 
--- src/source.rt:41:31
+-- src/source.rt
 enum-told-7 : tie.Need-enum-told-7
 enum-told-7 c = search needs
 
--- src/source.rt:42:32
+-- src/source.rt
 enum-told-8 : tie.Need-enum-told-8
 enum-told-8 c = search needs
 
--- src/source.rt:43:35
+-- src/source.rt
 enum-told-9 : tie.Need-enum-told-9
 enum-told-9 c = search needs
 
--- src/source.rt:29:1
+-- src/source.rt
 returns : tie.Need-returns
 unfolding aigIn
 returns c = cc
 
--- src/source.rt:29:1
+-- src/source.rt
 returns-2 : tie.Need-returns-2
 unfolding aigIn
 returns-2 c = cc
 
--- src/source.rt:29:1
+-- src/source.rt
 returns-3 : tie.Need-returns-3
 unfolding aigIn
 returns-3 c = cc
 
--- src/source.rt:29:1
+-- src/source.rt
 returns-4 : tie.Need-returns-4
 unfolding aigIn
 returns-4 c = cc
 
--- src/source.rt:29:1
+-- src/source.rt
 returns-5 : tie.Need-returns-5
 unfolding aigIn
 returns-5 c = cc
 
--- src/source.rt:29:1
+-- src/source.rt
 returns-6 : tie.Need-returns-6
 unfolding aigIn
 returns-6 c = cc
 
--- src/source.rt:29:1
+-- src/source.rt
 returns-7 : tie.Need-returns-7
 unfolding aigIn
 returns-7 c = cc
 
--- src/source.rt:29:1
+-- src/source.rt
 returns-8 : tie.Need-returns-8
 unfolding aigIn
 returns-8 c = cc
 
--- src/source.rt:29:1
+-- src/source.rt
 returns-9 : tie.Need-returns-9
 unfolding aigIn
 returns-9 c = cc
 
--- src/source.rt:29:1
+-- src/source.rt
 returns-10 : tie.Need-returns-10
 unfolding aigIn
 returns-10 c = cc

@@ -8,25 +8,25 @@ use Rattle.aig_arms.proofs.and.and_and.Lts as lts
 use Rattle.aig_arms.proofs.opposite.Reads as opposite-reads
 use Rattle.value.proofs.control_eq.Reads as control-eq-reads
 
--- src/and.rt:19:8
+-- src/and.rt
 control-eq-requires : tie.Need-control-eq-requires
 control-eq-requires c κs = search needs
 
--- src/and.rt:20:9
+-- src/and.rt
 returns : tie.Need-returns
 unfolding andAnd
 returns c = search held
 
--- src/and.rt:22:8
+-- src/and.rt
 opposite-requires : tie.Need-opposite-requires
 opposite-requires c κs = search needs
 
--- src/and.rt:23:9
+-- src/and.rt
 returns-2 : tie.Need-returns-2
 unfolding andAnd
 returns-2 c = search (failed, held-last)
 
--- src/and.rt:16:1
+-- src/and.rt
 returns-3 : tie.Need-returns-3
 unfolding andAnd
 returns-3 c = search (failed, failed-last)

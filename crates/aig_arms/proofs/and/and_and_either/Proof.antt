@@ -7,23 +7,23 @@ use Rattle.aig_arms.proofs.and.and_and_either.Lts as lts
 use Rattle.aig_arms.proofs.and.and_and.Reads as and-and-reads
 use Rattle.normalize.proofs.applies.Reads as applies-reads
 
--- src/and.rt:31:9
+-- src/and.rt
 and-and-requires : tie.Need-and-and-requires
 and-and-requires c κs = search needs
 
--- src/and.rt:32:8
+-- src/and.rt
 applies-requires : tie.Need-applies-requires
 applies-requires c κs = search needs
 
--- src/and.rt:33:9
+-- src/and.rt
 returns : tie.Need-returns
 returns c = search first
 
--- src/and.rt:35:5
+-- src/and.rt
 and-and-requires-2 : tie.Need-and-and-requires-2
 and-and-requires-2 c κs = search needs
 
--- src/and.rt:28:1
+-- src/and.rt
 returns-2 : tie.Need-returns-2
 returns-2 c = search second
 

@@ -10,33 +10,33 @@ use Rattle.aig_arms.proofs.opposite.Reads as opposite-reads
 use Rattle.normalize.proofs.from_control.Reads as from-control-reads
 use Rattle.value.proofs.control_eq.Reads as control-eq-reads
 
--- src/and.rt:56:8
+-- src/and.rt
 control-eq-requires : tie.Need-control-eq-requires
 control-eq-requires c κs = search needs
 
--- src/and.rt:57:9
+-- src/and.rt
 from-control-requires : tie.Need-from-control-requires
 from-control-requires c κs = search needs
 
--- src/and.rt:57:9
+-- src/and.rt
 returns : tie.Need-returns
 unfolding andWith
 returns c = search (held, control-applies)
 
--- src/and.rt:59:8
+-- src/and.rt
 opposite-requires : tie.Need-opposite-requires
 opposite-requires c κs = search needs
 
--- src/and.rt:60:9
+-- src/and.rt
 returns-2 : tie.Need-returns-2
 unfolding andWith
 returns-2 c = search (failed, held)
 
--- src/and.rt:62:5
+-- src/and.rt
 and-with-and-requires : tie.Need-and-with-and-requires
 and-with-and-requires c κs = search needs
 
--- src/and.rt:53:1
+-- src/and.rt
 returns-3 : tie.Need-returns-3
 unfolding andWith
 returns-3 c = search failed

@@ -9,35 +9,35 @@ use Rattle.aig.proofs.source.aig_in.Reads as aig-in-reads
 use Rattle.aig_arms.proofs.and.and_and_either.Reads as and-and-either-reads
 use Rattle.value.proofs.ControlNet.is_positive.Reads as is-positive-reads
 
--- src/and.rt:41:11
+-- src/and.rt
 aig-in-requires : tie.Need-aig-in-requires
 aig-in-requires c κs = search needs
 
--- src/and.rt:42:25
+-- src/and.rt
 enum-known-b1 : tie.Need-enum-known-b1
 enum-known-b1 c = search needs
 
--- src/and.rt:43:16
+-- src/and.rt
 is-positive-requires : tie.Need-is-positive-requires
 is-positive-requires c κs = search needs
 
--- src/and.rt:44:17
+-- src/and.rt
 and-and-either-requires : tie.Need-and-and-either-requires
 and-and-either-requires c κs = search needs
 
--- src/and.rt:44:17
+-- src/and.rt
 returns : tie.Need-returns
 returns c = search (of-aig, held-last)
 
--- src/and.rt:48:31
+-- src/and.rt
 enum-told : tie.Need-enum-told
 enum-told c = search needs
 
--- src/and.rt:38:1
+-- src/and.rt
 returns-2 : tie.Need-returns-2
 returns-2 c = search (of-aig, failed-last)
 
--- src/and.rt:38:1
+-- src/and.rt
 returns-3 : tie.Need-returns-3
 returns-3 c = search no-aig
 

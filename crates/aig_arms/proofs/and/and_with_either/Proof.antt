@@ -7,23 +7,23 @@ use Rattle.aig_arms.proofs.and.and_with_either.Lts as lts
 use Rattle.aig_arms.proofs.and.and_with.Reads as and-with-reads
 use Rattle.normalize.proofs.applies.Reads as applies-reads
 
--- src/and.rt:74:9
+-- src/and.rt
 and-with-requires : tie.Need-and-with-requires
 and-with-requires c κs = search needs
 
--- src/and.rt:75:8
+-- src/and.rt
 applies-requires : tie.Need-applies-requires
 applies-requires c κs = search needs
 
--- src/and.rt:76:9
+-- src/and.rt
 returns : tie.Need-returns
 returns c = search first
 
--- src/and.rt:78:5
+-- src/and.rt
 and-with-requires-2 : tie.Need-and-with-requires-2
 and-with-requires-2 c κs = search needs
 
--- src/and.rt:65:1
+-- src/and.rt
 returns-2 : tie.Need-returns-2
 returns-2 c = search second
 

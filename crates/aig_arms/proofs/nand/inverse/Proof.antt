@@ -6,15 +6,15 @@ use Rattle.aig_arms.proofs.nand.inverse.Lts as lts
 use Rattle.normalize.proofs.from_control.Reads as from-control-reads
 use Rattle.value.proofs.ControlNet.not.Reads as not-reads
 
--- src/nand.rt:50:29
+-- src/nand.rt
 not-requires : tie.Need-not-requires
 not-requires c κs = search needs
 
--- src/nand.rt:50:5
+-- src/nand.rt
 from-control-requires : tie.Need-from-control-requires
 from-control-requires c κs = search needs
 
--- src/nand.rt:47:1
+-- src/nand.rt
 returns : tie.Need-returns
 returns c = rw (c .from-control .ensures, c .before .not .ensures)
 

@@ -3,11 +3,11 @@ use Rattle.aig_arms.proofs.nand.inverse_if.Tie as tie
 use Rattle.aig_arms.proofs.nand.inverse_if.Reads as reads
 use Rattle.aig_arms.proofs.nand.inverse_if.Lts as lts
 
--- src/nand.rt:54:1
+-- src/nand.rt
 returns : tie.Need-returns
 returns c = rw (c .if1 .taken)
 
--- src/nand.rt:54:1
+-- src/nand.rt
 returns-2 : tie.Need-returns-2
 returns-2 c = rw (c .if1 .left)
 

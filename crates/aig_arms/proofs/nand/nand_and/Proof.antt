@@ -10,33 +10,33 @@ use Rattle.normalize.proofs.from_control.Reads as from-control-reads
 use Rattle.value.proofs.ControlNet.not.Reads as not-reads
 use Rattle.value.proofs.control_eq.Reads as control-eq-reads
 
--- src/nand.rt:21:8
+-- src/nand.rt
 control-eq-requires : tie.Need-control-eq-requires
 control-eq-requires c κs = search needs
 
--- src/nand.rt:22:40
+-- src/nand.rt
 not-requires : tie.Need-not-requires
 not-requires c κs = search needs
 
--- src/nand.rt:22:9
+-- src/nand.rt
 returns : tie.Need-returns
 unfolding nandAnd
 returns c = search held
 
--- src/nand.rt:24:8
+-- src/nand.rt
 opposite-requires : tie.Need-opposite-requires
 opposite-requires c κs = search needs
 
--- src/nand.rt:25:9
+-- src/nand.rt
 from-control-requires : tie.Need-from-control-requires
 from-control-requires c κs = search needs
 
--- src/nand.rt:25:9
+-- src/nand.rt
 returns-2 : tie.Need-returns-2
 unfolding nandAnd
 returns-2 c = search (failed, held-last)
 
--- src/nand.rt:18:1
+-- src/nand.rt
 returns-3 : tie.Need-returns-3
 unfolding nandAnd
 returns-3 c = search (failed, failed-last)

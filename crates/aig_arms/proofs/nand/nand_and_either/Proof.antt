@@ -7,23 +7,23 @@ use Rattle.aig_arms.proofs.nand.nand_and_either.Lts as lts
 use Rattle.aig_arms.proofs.nand.nand_and.Reads as nand-and-reads
 use Rattle.normalize.proofs.applies.Reads as applies-reads
 
--- src/nand.rt:39:9
+-- src/nand.rt
 nand-and-requires : tie.Need-nand-and-requires
 nand-and-requires c κs = search needs
 
--- src/nand.rt:40:8
+-- src/nand.rt
 applies-requires : tie.Need-applies-requires
 applies-requires c κs = search needs
 
--- src/nand.rt:41:9
+-- src/nand.rt
 returns : tie.Need-returns
 returns c = search first
 
--- src/nand.rt:43:5
+-- src/nand.rt
 nand-and-requires-2 : tie.Need-nand-and-requires-2
 nand-and-requires-2 c κs = search needs
 
--- src/nand.rt:30:1
+-- src/nand.rt
 returns-2 : tie.Need-returns-2
 returns-2 c = search second
 

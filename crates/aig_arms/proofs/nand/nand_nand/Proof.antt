@@ -10,42 +10,42 @@ use Rattle.aig_arms.proofs.nand.xor_of.Reads as xor-of-reads
 use Rattle.aig_arms.proofs.opposite.Reads as opposite-reads
 use Rattle.value.proofs.control_eq.Reads as control-eq-reads
 
--- src/nand.rt:76:9
+-- src/nand.rt
 opposite-requires : tie.Need-opposite-requires
 opposite-requires c κs = search needs
 
--- src/nand.rt:77:9
+-- src/nand.rt
 returns : tie.Need-returns
 unfolding nandNand
 returns c = search barred-both
 
--- src/nand.rt:79:8
+-- src/nand.rt
 control-eq-requires : tie.Need-control-eq-requires
 control-eq-requires c κs = search needs
 
--- src/nand.rt:80:9
+-- src/nand.rt
 inverse-requires : tie.Need-inverse-requires
 inverse-requires c κs = search needs
 
--- src/nand.rt:80:9
+-- src/nand.rt
 returns-2 : tie.Need-returns-2
 unfolding nandNand
 returns-2 c = search (passed-both, held, control-applies)
 
--- src/nand.rt:82:8
+-- src/nand.rt
 opposite-requires-2 : tie.Need-opposite-requires-2
 opposite-requires-2 c κs = search needs
 
--- src/nand.rt:83:9
+-- src/nand.rt
 xor-of-requires : tie.Need-xor-of-requires
 xor-of-requires c κs = search needs
 
--- src/nand.rt:83:9
+-- src/nand.rt
 returns-3 : tie.Need-returns-3
 unfolding nandNand
 returns-3 c = search (passed-both, failed, held-last)
 
--- src/nand.rt:73:1
+-- src/nand.rt
 returns-4 : tie.Need-returns-4
 unfolding nandNand
 returns-4 c = search (passed-both, failed, failed-last)

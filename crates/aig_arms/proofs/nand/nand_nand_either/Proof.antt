@@ -7,23 +7,23 @@ use Rattle.aig_arms.proofs.nand.nand_nand_either.Lts as lts
 use Rattle.aig_arms.proofs.nand.nand_nand.Reads as nand-nand-reads
 use Rattle.normalize.proofs.applies.Reads as applies-reads
 
--- src/nand.rt:91:9
+-- src/nand.rt
 nand-nand-requires : tie.Need-nand-nand-requires
 nand-nand-requires c κs = search needs
 
--- src/nand.rt:92:8
+-- src/nand.rt
 applies-requires : tie.Need-applies-requires
 applies-requires c κs = search needs
 
--- src/nand.rt:93:9
+-- src/nand.rt
 returns : tie.Need-returns
 returns c = search first
 
--- src/nand.rt:95:5
+-- src/nand.rt
 nand-nand-requires-2 : tie.Need-nand-nand-requires-2
 nand-nand-requires-2 c κs = search needs
 
--- src/nand.rt:88:1
+-- src/nand.rt
 returns-2 : tie.Need-returns-2
 returns-2 c = search second
 

@@ -11,37 +11,37 @@ use Rattle.normalize.proofs.from_control.Reads as from-control-reads
 use Rattle.value.proofs.ControlNet.not.Reads as not-reads
 use Rattle.value.proofs.control_eq.Reads as control-eq-reads
 
--- src/nand.rt:127:8
+-- src/nand.rt
 control-eq-requires : tie.Need-control-eq-requires
 control-eq-requires c κs = search needs
 
--- src/nand.rt:128:40
+-- src/nand.rt
 not-requires : tie.Need-not-requires
 not-requires c κs = search needs
 
--- src/nand.rt:128:9
+-- src/nand.rt
 returns : tie.Need-returns
 unfolding nandWith
 returns c = search held
 
--- src/nand.rt:130:8
+-- src/nand.rt
 opposite-requires : tie.Need-opposite-requires
 opposite-requires c κs = search needs
 
--- src/nand.rt:131:9
+-- src/nand.rt
 from-control-requires : tie.Need-from-control-requires
 from-control-requires c κs = search needs
 
--- src/nand.rt:131:9
+-- src/nand.rt
 returns-2 : tie.Need-returns-2
 unfolding nandWith
 returns-2 c = search (failed, held, control-applies)
 
--- src/nand.rt:133:5
+-- src/nand.rt
 nand-with-aig-requires : tie.Need-nand-with-aig-requires
 nand-with-aig-requires c κs = search needs
 
--- src/nand.rt:124:1
+-- src/nand.rt
 returns-3 : tie.Need-returns-3
 unfolding nandWith
 returns-3 c = search failed

@@ -7,27 +7,27 @@ use Rattle.aig_arms.proofs.nand.nand_with_aig.Lts as lts
 use Rattle.aig.proofs.source.aig_in.Reads as aig-in-reads
 use Rattle.aig_arms.proofs.nand.nand_with_both.Reads as nand-with-both-reads
 
--- src/nand.rt:117:11
+-- src/nand.rt
 aig-in-requires : tie.Need-aig-in-requires
 aig-in-requires c κs = search needs
 
--- src/nand.rt:118:25
+-- src/nand.rt
 enum-known-b1 : tie.Need-enum-known-b1
 enum-known-b1 c = search needs
 
--- src/nand.rt:118:36
+-- src/nand.rt
 nand-with-both-requires : tie.Need-nand-with-both-requires
 nand-with-both-requires c κs = search needs
 
--- src/nand.rt:119:31
+-- src/nand.rt
 enum-told : tie.Need-enum-told
 enum-told c = search needs
 
--- src/nand.rt:114:1
+-- src/nand.rt
 returns : tie.Need-returns
 returns c = search of-aigs
 
--- src/nand.rt:114:1
+-- src/nand.rt
 returns-2 : tie.Need-returns-2
 returns-2 c = search no-aigs
 

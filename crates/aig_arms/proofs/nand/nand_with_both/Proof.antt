@@ -8,23 +8,23 @@ use Rattle.aig_arms.proofs.nand.nand_and_either.Reads as nand-and-eithe
 use Rattle.aig_arms.proofs.nand.nand_nand_either.Reads as nand-nand-either-reads
 use Rattle.value.proofs.ControlNet.is_positive.Reads as is-positive-reads
 
--- src/nand.rt:108:8
+-- src/nand.rt
 is-positive-requires : tie.Need-is-positive-requires
 is-positive-requires c κs = search needs
 
--- src/nand.rt:109:9
+-- src/nand.rt
 nand-and-either-requires : tie.Need-nand-and-either-requires
 nand-and-either-requires c κs = search needs
 
--- src/nand.rt:109:9
+-- src/nand.rt
 returns : tie.Need-returns
 returns c = search positive
 
--- src/nand.rt:111:5
+-- src/nand.rt
 nand-nand-either-requires : tie.Need-nand-nand-either-requires
 nand-nand-either-requires c κs = search needs
 
--- src/nand.rt:99:1
+-- src/nand.rt
 returns-2 : tie.Need-returns-2
 returns-2 c = search negative
 

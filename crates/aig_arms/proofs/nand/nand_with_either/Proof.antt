@@ -7,23 +7,23 @@ use Rattle.aig_arms.proofs.nand.nand_with_either.Lts as lts
 use Rattle.aig_arms.proofs.nand.nand_with.Reads as nand-with-reads
 use Rattle.normalize.proofs.applies.Reads as applies-reads
 
--- src/nand.rt:139:9
+-- src/nand.rt
 nand-with-requires : tie.Need-nand-with-requires
 nand-with-requires c κs = search needs
 
--- src/nand.rt:140:8
+-- src/nand.rt
 applies-requires : tie.Need-applies-requires
 applies-requires c κs = search needs
 
--- src/nand.rt:141:9
+-- src/nand.rt
 returns : tie.Need-returns
 returns c = search first
 
--- src/nand.rt:143:5
+-- src/nand.rt
 nand-with-requires-2 : tie.Need-nand-with-requires-2
 nand-with-requires-2 c κs = search needs
 
--- src/nand.rt:136:1
+-- src/nand.rt
 returns-2 : tie.Need-returns-2
 returns-2 c = search second
 

@@ -9,31 +9,31 @@ use Rattle.aig_arms.proofs.nand.inverse_if.Reads as inverse-if-reads
 use Rattle.value.proofs.ControlNet.is_negative.Reads as is-negative-reads
 use Rattle.value.proofs.ControlNet.net.Reads as net-reads
 
--- src/nand.rt:68:27
+-- src/nand.rt
 is-negative-requires : tie.Need-is-negative-requires
 is-negative-requires c κs = search needs
 
--- src/nand.rt:68:45
+-- src/nand.rt
 is-negative-requires-2 : tie.Need-is-negative-requires-2
 is-negative-requires-2 c κs = search needs
 
--- src/nand.rt:68:9
+-- src/nand.rt
 differ-requires : tie.Need-differ-requires
 differ-requires c κs = search needs
 
--- src/nand.rt:69:36
+-- src/nand.rt
 net-requires : tie.Need-net-requires
 net-requires c κs = search needs
 
--- src/nand.rt:69:46
+-- src/nand.rt
 net-requires-2 : tie.Need-net-requires-2
 net-requires-2 c κs = search needs
 
--- src/nand.rt:69:5
+-- src/nand.rt
 inverse-if-requires : tie.Need-inverse-if-requires
 inverse-if-requires c κs = search needs
 
--- src/nand.rt:65:1
+-- src/nand.rt
 returns : tie.Need-returns
 unfolding xorOf
 returns c = rw (c .inverse-if .ensures, c .before .net2 .ensures, c .before .before .net .ensures, c .before .before .before .differ .ensures, c .before .before .before .before .is-negative2 .ensures, c .before .before .before .before .before .is-negative .ensures)

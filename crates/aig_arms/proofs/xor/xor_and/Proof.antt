@@ -11,36 +11,36 @@ use Rattle.value.proofs.ControlNet.is_negative.Reads as is-negative-reads
 use Rattle.value.proofs.ControlNet.net.Reads as net-reads
 use Rattle.value.proofs.net_eq.Reads as net-eq-reads
 
--- src/xor.rt:19:26
+-- src/xor.rt
 net-requires : tie.Need-net-requires
 net-requires c κs = search needs
 
--- src/xor.rt:19:8
+-- src/xor.rt
 net-eq-requires : tie.Need-net-eq-requires
 net-eq-requires c κs = search needs
 
--- src/xor.rt:20:32
+-- src/xor.rt
 is-negative-requires : tie.Need-is-negative-requires
 is-negative-requires c κs = search needs
 
--- src/xor.rt:20:49
+-- src/xor.rt
 is-negative-requires-2 : tie.Need-is-negative-requires-2
 is-negative-requires-2 c κs = search needs
 
--- src/xor.rt:20:25
+-- src/xor.rt
 differ-requires : tie.Need-differ-requires
 differ-requires c κs = search needs
 
--- src/xor.rt:21:40
+-- src/xor.rt
 from-net-invert-requires : tie.Need-from-net-invert-requires
 from-net-invert-requires c κs = search needs
 
--- src/xor.rt:21:9
+-- src/xor.rt
 returns : tie.Need-returns
 unfolding xorAnd
 returns c = held-last _ _ _ _ (rw (c .before .before .before .before .before .before .net .ensures) at (c .before .before .before .before .before .net-eq .ensures)) (c .before .before .before .before .if1 .taken) (rw (c .from-net-invert .ensures, c .before .differ .ensures, c .before .before .is-negative2 .ensures, c .before .before .before .is-negative .ensures))
 
--- src/xor.rt:16:1
+-- src/xor.rt
 returns-2 : tie.Need-returns-2
 unfolding xorAnd
 returns-2 c = failed-last _ _ _ (rw (c .before .before .net .ensures) at (c .before .net-eq .ensures)) (c .if1 .left)

@@ -7,23 +7,23 @@ use Rattle.aig_arms.proofs.xor.xor_and_either.Lts as lts
 use Rattle.aig_arms.proofs.xor.xor_and.Reads as xor-and-reads
 use Rattle.normalize.proofs.applies.Reads as applies-reads
 
--- src/xor.rt:36:9
+-- src/xor.rt
 xor-and-requires : tie.Need-xor-and-requires
 xor-and-requires c κs = search needs
 
--- src/xor.rt:37:8
+-- src/xor.rt
 applies-requires : tie.Need-applies-requires
 applies-requires c κs = search needs
 
--- src/xor.rt:38:9
+-- src/xor.rt
 returns : tie.Need-returns
 returns c = search first
 
--- src/xor.rt:40:5
+-- src/xor.rt
 xor-and-requires-2 : tie.Need-xor-and-requires-2
 xor-and-requires-2 c κs = search needs
 
--- src/xor.rt:26:1
+-- src/xor.rt
 returns-2 : tie.Need-returns-2
 returns-2 c = search second
 

@@ -9,24 +9,24 @@ use Rattle.aig_arms.proofs.xor.xor_and.Reads as xor-and-reads
 use Rattle.aig_arms.proofs.xor.xor_with_and.Reads as xor-with-and-reads
 use Rattle.normalize.proofs.applies.Reads as applies-reads
 
--- src/xor.rt:60:9
+-- src/xor.rt
 xor-and-requires : tie.Need-xor-and-requires
 xor-and-requires c κs = search needs
 
--- src/xor.rt:61:8
+-- src/xor.rt
 applies-requires : tie.Need-applies-requires
 applies-requires c κs = search needs
 
--- src/xor.rt:62:9
+-- src/xor.rt
 returns : tie.Need-returns
 unfolding xorWith
 returns c = search first
 
--- src/xor.rt:64:5
+-- src/xor.rt
 xor-with-and-requires : tie.Need-xor-with-and-requires
 xor-with-and-requires c κs = search needs
 
--- src/xor.rt:57:1
+-- src/xor.rt
 returns-2 : tie.Need-returns-2
 unfolding xorWith
 returns-2 c = search second

@@ -9,35 +9,35 @@ use Rattle.aig.proofs.source.aig_in.Reads as aig-in-reads
 use Rattle.aig_arms.proofs.xor.xor_and_either.Reads as xor-and-either-reads
 use Rattle.value.proofs.ControlNet.is_positive.Reads as is-positive-reads
 
--- src/xor.rt:46:11
+-- src/xor.rt
 aig-in-requires : tie.Need-aig-in-requires
 aig-in-requires c κs = search needs
 
--- src/xor.rt:47:25
+-- src/xor.rt
 enum-known-b1 : tie.Need-enum-known-b1
 enum-known-b1 c = search needs
 
--- src/xor.rt:48:16
+-- src/xor.rt
 is-positive-requires : tie.Need-is-positive-requires
 is-positive-requires c κs = search needs
 
--- src/xor.rt:49:17
+-- src/xor.rt
 xor-and-either-requires : tie.Need-xor-and-either-requires
 xor-and-either-requires c κs = search needs
 
--- src/xor.rt:49:17
+-- src/xor.rt
 returns : tie.Need-returns
 returns c = search (of-aig, held-last)
 
--- src/xor.rt:53:31
+-- src/xor.rt
 enum-told : tie.Need-enum-told
 enum-told c = search needs
 
--- src/xor.rt:43:1
+-- src/xor.rt
 returns-2 : tie.Need-returns-2
 returns-2 c = search (of-aig, failed-last)
 
--- src/xor.rt:43:1
+-- src/xor.rt
 returns-3 : tie.Need-returns-3
 returns-3 c = search no-aig
 

@@ -7,23 +7,23 @@ use Rattle.aig_arms.proofs.xor.xor_with_either.Lts as lts
 use Rattle.aig_arms.proofs.xor.xor_with.Reads as xor-with-reads
 use Rattle.normalize.proofs.applies.Reads as applies-reads
 
--- src/xor.rt:70:9
+-- src/xor.rt
 xor-with-requires : tie.Need-xor-with-requires
 xor-with-requires c κs = search needs
 
--- src/xor.rt:71:8
+-- src/xor.rt
 applies-requires : tie.Need-applies-requires
 applies-requires c κs = search needs
 
--- src/xor.rt:72:9
+-- src/xor.rt
 returns : tie.Need-returns
 returns c = search first
 
--- src/xor.rt:74:5
+-- src/xor.rt
 xor-with-requires-2 : tie.Need-xor-with-requires-2
 xor-with-requires-2 c κs = search needs
 
--- src/xor.rt:67:1
+-- src/xor.rt
 returns-2 : tie.Need-returns-2
 returns-2 c = search second
 

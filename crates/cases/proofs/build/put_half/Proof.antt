@@ -6,31 +6,31 @@ use Rattle.cases.proofs.build.put_half.Tie as tie
 use Rattle.cases.proofs.build.put_half.Reads as reads
 use Rattle.cases.proofs.build.put_half.Lts as lts
 
--- src/build.rt:8:18
+-- src/build.rt
 cast-ticket : tie.Need-cast-ticket
 cast-ticket c = search needs
 
--- src/build.rt:8:5
+-- src/build.rt
 slice-write-ticket : tie.Need-slice-write-ticket
 slice-write-ticket c = search needs
 
--- src/build.rt:9:22
+-- src/build.rt
 cast-ticket-2 : tie.Need-cast-ticket-2
 cast-ticket-2 c = search needs
 
--- src/build.rt:9:12
+-- src/build.rt
 add-ticket : tie.Need-add-ticket
 add-ticket c = search needs
 
--- src/build.rt:9:5
+-- src/build.rt
 slice-write-ticket-2 : tie.Need-slice-write-ticket-2
 slice-write-ticket-2 c = simp length-set (omega arith)
 
--- src/build.rt:5:1
+-- src/build.rt
 same-length : tie.Need-same-length
 same-length c = search needs
 
--- src/build.rt:5:1
+-- src/build.rt
 returns : tie.Need-returns
 returns c = search needs
 

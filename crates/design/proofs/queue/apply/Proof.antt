@@ -15,35 +15,35 @@ Inv-loop work₀ n changed₀ s₀ work changed s = Applying n work₀ work chan
 abbrev μ-loop : tie.MeasureT-loop
 μ-loop work₀ n changed₀ s₀ work changed s = n - s
 
--- src/queue.rt:126:5
+-- src/queue.rt
 loop-holds : tie.Need-loop-holds Inv-loop μ-loop
 loop-holds c = search applying-none
 
--- src/queue.rt:127:13
+-- src/queue.rt
 apply-to-requires : tie.Need-apply-to-requires Inv-loop μ-loop
 apply-to-requires c κs = search needs
 
--- src/queue.rt:128:9
+-- src/queue.rt
 either-requires : tie.Need-either-requires Inv-loop μ-loop
 either-requires c κs = search needs
 
--- src/queue.rt:129:9
+-- src/queue.rt
 add-s : tie.Need-add-s Inv-loop μ-loop
 add-s c = omega arith
 
--- src/queue.rt:126:5
+-- src/queue.rt
 loop-less : tie.Need-loop-less Inv-loop μ-loop
 loop-less c = omega arith
 
--- src/queue.rt:126:5
+-- src/queue.rt
 loop-again : tie.Need-loop-again Inv-loop μ-loop
 loop-again c = search applying-more
 
--- src/queue.rt:117:1
+-- src/queue.rt
 same-length : tie.Need-same-length Inv-loop μ-loop
 same-length c = search needs
 
--- src/queue.rt:117:1
+-- src/queue.rt
 returns : tie.Need-returns Inv-loop μ-loop
 returns c = (search applied-all, (search applied-flag, search applied-frame))
 

@@ -9,27 +9,27 @@ use Rattle.design.proofs.queue.record_eq.Reads as record-eq-reads
 use Rattle.design.proofs.visit.plain.Reads as plain-reads
 use Rattle.netlist.proofs.record_in.Reads as record-in-reads
 
--- src/queue.rt:111:28
+-- src/queue.rt
 record-in-requires : tie.Need-record-in-requires
 record-in-requires c κs = search needs
 
--- src/queue.rt:111:9
+-- src/queue.rt
 plain-requires : tie.Need-plain-requires
 plain-requires c κs = search needs
 
--- src/queue.rt:112:9
+-- src/queue.rt
 put-replaced-requires : tie.Need-put-replaced-requires
 put-replaced-requires c κs = search needs
 
--- src/queue.rt:113:6
+-- src/queue.rt
 record-eq-requires : tie.Need-record-eq-requires
 record-eq-requires c κs = search needs
 
--- src/queue.rt:108:1
+-- src/queue.rt
 same-length : tie.Need-same-length
 same-length c = search needs
 
--- src/queue.rt:108:1
+-- src/queue.rt
 returns : tie.Need-returns
 returns c = search applies
 

@@ -14,35 +14,35 @@ Inv-loop work n y₀ left₀ y left = Following n work y₀ y left
 abbrev μ-loop : tie.MeasureT-loop
 μ-loop work n y₀ left₀ y left = left
 
--- src/queue.rt:63:5
+-- src/queue.rt
 loop-holds : tie.Need-loop-holds Inv-loop μ-loop
 loop-holds c = search follows-none
 
--- src/queue.rt:64:13
+-- src/queue.rt
 replaced-by-requires : tie.Need-replaced-by-requires Inv-loop μ-loop
 replaced-by-requires c κs = search needs
 
--- src/queue.rt:65:12
+-- src/queue.rt
 net-eq-requires : tie.Need-net-eq-requires Inv-loop μ-loop
 net-eq-requires c κs = search needs
 
--- src/queue.rt:66:13
+-- src/queue.rt
 returns : tie.Need-returns Inv-loop μ-loop
 returns c = search follows-stop
 
--- src/queue.rt:69:9
+-- src/queue.rt
 sub-left : tie.Need-sub-left Inv-loop μ-loop
 sub-left c = omega arith
 
--- src/queue.rt:63:5
+-- src/queue.rt
 loop-less : tie.Need-loop-less Inv-loop μ-loop
 loop-less c = omega arith
 
--- src/queue.rt:63:5
+-- src/queue.rt
 loop-again : tie.Need-loop-again Inv-loop μ-loop
 loop-again c = search follows-more
 
--- src/queue.rt:58:1
+-- src/queue.rt
 returns-2 : tie.Need-returns-2 Inv-loop μ-loop
 returns-2 c = search follows-end
 

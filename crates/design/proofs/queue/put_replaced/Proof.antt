@@ -10,39 +10,39 @@ use Rattle.design.proofs.visit.net_b.Reads as net-b-reads
 use Rattle.design.proofs.visit.with_nets.Reads as with-nets-reads
 use Rattle.netlist.proofs.put_record.Reads as put-record-reads
 
--- src/queue.rt:99:34
+-- src/queue.rt
 net-a-requires : tie.Need-net-a-requires
 net-a-requires c κs = search needs
 
--- src/queue.rt:99:9
+-- src/queue.rt
 map-net-new-requires : tie.Need-map-net-new-requires
 map-net-new-requires c κs = search needs
 
--- src/queue.rt:100:34
+-- src/queue.rt
 net-b-requires : tie.Need-net-b-requires
 net-b-requires c κs = search needs
 
--- src/queue.rt:100:9
+-- src/queue.rt
 map-net-new-requires-2 : tie.Need-map-net-new-requires-2
 map-net-new-requires-2 c κs = search needs
 
--- src/queue.rt:101:9
+-- src/queue.rt
 map-net-new-requires-3 : tie.Need-map-net-new-requires-3
 map-net-new-requires-3 c κs = search needs
 
--- src/queue.rt:102:9
+-- src/queue.rt
 with-nets-requires : tie.Need-with-nets-requires
 with-nets-requires c κs = search needs
 
--- src/queue.rt:103:5
+-- src/queue.rt
 put-record-requires : tie.Need-put-record-requires
 put-record-requires c κs = search needs
 
--- src/queue.rt:95:1
+-- src/queue.rt
 same-length : tie.Need-same-length
 same-length c = search needs
 
--- src/queue.rt:95:1
+-- src/queue.rt
 returns : tie.Need-returns
 unfolding renamedFields
 returns c = (cc, cc)

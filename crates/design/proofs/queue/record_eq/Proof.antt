@@ -6,23 +6,23 @@ use Rattle.design.proofs.queue.record_eq.Reads as reads
 use Rattle.design.proofs.queue.record_eq.Lts as lts
 use Rattle.logic.proofs.both.Reads as both-reads
 
--- src/queue.rt:78:9
+-- src/queue.rt
 both-requires : tie.Need-both-requires
 both-requires c κs = search needs
 
--- src/queue.rt:79:9
+-- src/queue.rt
 both-requires-2 : tie.Need-both-requires-2
 both-requires-2 c κs = search needs
 
--- src/queue.rt:80:17
+-- src/queue.rt
 both-requires-3 : tie.Need-both-requires-3
 both-requires-3 c κs = search needs
 
--- src/queue.rt:80:5
+-- src/queue.rt
 both-requires-4 : tie.Need-both-requires-4
 both-requires-4 c κs = search needs
 
--- src/queue.rt:75:1
+-- src/queue.rt
 returns : tie.Need-returns
 unfolding eqRecord
 returns c = cc

@@ -6,23 +6,23 @@ use Rattle.design.proofs.queue.replace_net.Reads as reads
 use Rattle.design.proofs.queue.replace_net.Lts as lts
 use Rattle.cell.proofs.put.Reads as put-reads
 
--- src/queue.rt:39:29
+-- src/queue.rt
 cast-put : tie.Need-cast-put
 cast-put c = search needs
 
--- src/queue.rt:39:21
+-- src/queue.rt
 add-put : tie.Need-add-put
 add-put c = search needs
 
--- src/queue.rt:39:5
+-- src/queue.rt
 put-requires : tie.Need-put-requires
 put-requires c κs = search needs
 
--- src/queue.rt:32:1
+-- src/queue.rt
 same-length : tie.Need-same-length
 same-length c = search needs
 
--- src/queue.rt:32:1
+-- src/queue.rt
 returns : tie.Need-returns
 returns c = (search replaces, search replaces-frame)
 

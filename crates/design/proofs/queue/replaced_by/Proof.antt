@@ -7,39 +7,39 @@ use Rattle.design.proofs.queue.replaced_by.Lts as lts
 use Rattle.cell.proofs.word.Reads as word-reads
 use Rattle.value.proofs.Net.as_cell_index.Reads as as-cell-index-reads
 
--- src/queue.rt:46:11
+-- src/queue.rt
 as-cell-index-requires : tie.Need-as-cell-index-requires
 as-cell-index-requires c κs = search needs
 
--- src/queue.rt:47:29
+-- src/queue.rt
 enum-told : tie.Need-enum-told
 enum-told c = search needs
 
--- src/queue.rt:48:22
+-- src/queue.rt
 enum-known-s : tie.Need-enum-known-s
 enum-known-s c = search needs
 
--- src/queue.rt:50:53
+-- src/queue.rt
 cast-word : tie.Need-cast-word
 cast-word c = search needs
 
--- src/queue.rt:50:45
+-- src/queue.rt
 add-word : tie.Need-add-word
 add-word c = search needs
 
--- src/queue.rt:50:28
+-- src/queue.rt
 word-requires : tie.Need-word-requires
 word-requires c κs = search needs
 
--- src/queue.rt:50:17
+-- src/queue.rt
 returns : tie.Need-returns
 returns c = search step-cell
 
--- src/queue.rt:43:1
+-- src/queue.rt
 returns-2 : tie.Need-returns-2
 returns-2 c = search step-const
 
--- src/queue.rt:43:1
+-- src/queue.rt
 returns-3 : tie.Need-returns-3
 returns-3 c = search step-past
 

@@ -9,31 +9,31 @@ use Rattle.design.proofs.visit.net_a.Reads as net-a-reads
 use Rattle.design.proofs.visit.net_b.Reads as net-b-reads
 use Rattle.design.proofs.visit.with_nets.Reads as with-nets-reads
 
--- src/queue.rt:87:34
+-- src/queue.rt
 net-a-requires : tie.Need-net-a-requires
 net-a-requires c κs = search needs
 
--- src/queue.rt:87:9
+-- src/queue.rt
 map-net-new-requires : tie.Need-map-net-new-requires
 map-net-new-requires c κs = search needs
 
--- src/queue.rt:88:34
+-- src/queue.rt
 net-b-requires : tie.Need-net-b-requires
 net-b-requires c κs = search needs
 
--- src/queue.rt:88:9
+-- src/queue.rt
 map-net-new-requires-2 : tie.Need-map-net-new-requires-2
 map-net-new-requires-2 c κs = search needs
 
--- src/queue.rt:89:9
+-- src/queue.rt
 map-net-new-requires-3 : tie.Need-map-net-new-requires-3
 map-net-new-requires-3 c κs = search needs
 
--- src/queue.rt:90:5
+-- src/queue.rt
 with-nets-requires : tie.Need-with-nets-requires
 with-nets-requires c κs = search needs
 
--- src/queue.rt:84:1
+-- src/queue.rt
 returns : tie.Need-returns
 unfolding renamedFields
 returns c = cc

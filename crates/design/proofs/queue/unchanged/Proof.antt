@@ -15,43 +15,43 @@ Inv-loop work₀ n s₀ work s = Unchanging n work₀ work s
 abbrev μ-loop : tie.MeasureT-loop
 μ-loop work₀ n s₀ work s = n - s
 
--- src/queue.rt:25:5
+-- src/queue.rt
 loop-holds : tie.Need-loop-holds Inv-loop μ-loop
 loop-holds c = search unchanging-none
 
--- src/queue.rt:26:33
+-- src/queue.rt
 cast-put : tie.Need-cast-put Inv-loop μ-loop
 cast-put c = search needs
 
--- src/queue.rt:26:25
+-- src/queue.rt
 add-put : tie.Need-add-put Inv-loop μ-loop
 add-put c = omega arith
 
--- src/queue.rt:26:46
+-- src/queue.rt
 from-cell-index-requires : tie.Need-from-cell-index-requires Inv-loop μ-loop
 from-cell-index-requires c κs = omega arith
 
--- src/queue.rt:26:9
+-- src/queue.rt
 put-requires : tie.Need-put-requires Inv-loop μ-loop
 put-requires c κs = search needs
 
--- src/queue.rt:27:9
+-- src/queue.rt
 add-s : tie.Need-add-s Inv-loop μ-loop
 add-s c = omega arith
 
--- src/queue.rt:25:5
+-- src/queue.rt
 loop-less : tie.Need-loop-less Inv-loop μ-loop
 loop-less c = omega arith
 
--- src/queue.rt:25:5
+-- src/queue.rt
 loop-again : tie.Need-loop-again Inv-loop μ-loop
 loop-again c = search unchanging-more
 
--- src/queue.rt:18:1
+-- src/queue.rt
 same-length : tie.Need-same-length Inv-loop μ-loop
 same-length c = search needs
 
--- src/queue.rt:18:1
+-- src/queue.rt
 returns : tie.Need-returns Inv-loop μ-loop
 returns c = (search unchanging-all, search unchanging-frame)
 

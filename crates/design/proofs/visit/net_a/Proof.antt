@@ -6,11 +6,11 @@ use Rattle.design.proofs.visit.net_a.Reads as reads
 use Rattle.design.proofs.visit.net_a.Lts as lts
 use Rattle.logic.proofs.pick32.Reads as pick32-reads
 
--- src/visit.rt:28:9
+-- src/visit.rt
 pick32-requires : tie.Need-pick32-requires
 pick32-requires c κs = search needs
 
--- src/visit.rt:25:1
+-- src/visit.rt
 returns : tie.Need-returns
 unfolding netA
 returns c = cc

@@ -6,11 +6,11 @@ use Rattle.design.proofs.visit.net_b.Reads as reads
 use Rattle.design.proofs.visit.net_b.Lts as lts
 use Rattle.logic.proofs.pick32.Reads as pick32-reads
 
--- src/visit.rt:34:9
+-- src/visit.rt
 pick32-requires : tie.Need-pick32-requires
 pick32-requires c κs = search needs
 
--- src/visit.rt:31:1
+-- src/visit.rt
 returns : tie.Need-returns
 unfolding netB
 returns c = cc

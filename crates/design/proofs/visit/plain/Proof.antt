@@ -11,43 +11,43 @@ use Rattle.logic.proofs.pick8.Reads as pick8-reads
 use Rattle.logic.proofs.both.Reads as both-reads
 use Rattle.logic.proofs.either.Reads as either-reads
 
--- src/visit.rt:12:9
+-- src/visit.rt
 both-requires : tie.Need-both-requires
 both-requires c κs = search needs
 
--- src/visit.rt:13:43
+-- src/visit.rt
 both-requires-2 : tie.Need-both-requires-2
 both-requires-2 c κs = search needs
 
--- src/visit.rt:13:9
+-- src/visit.rt
 either-requires : tie.Need-either-requires
 either-requires c κs = search needs
 
--- src/visit.rt:15:15
+-- src/visit.rt
 pick8-requires : tie.Need-pick8-requires
 pick8-requires c κs = search needs
 
--- src/visit.rt:16:53
+-- src/visit.rt
 mul-pick8 : tie.Need-mul-pick8
 mul-pick8 c = search needs
 
--- src/visit.rt:16:39
+-- src/visit.rt
 add-pick8 : tie.Need-add-pick8
 add-pick8 c = search needs
 
--- src/visit.rt:16:16
+-- src/visit.rt
 pick8-requires-2 : tie.Need-pick8-requires-2
 pick8-requires-2 c κs = search needs
 
--- src/visit.rt:19:12
+-- src/visit.rt
 pick32-requires : tie.Need-pick32-requires
 pick32-requires c κs = search needs
 
--- src/visit.rt:20:12
+-- src/visit.rt
 pick32-requires-2 : tie.Need-pick32-requires-2
 pick32-requires-2 c κs = search needs
 
--- src/visit.rt:9:1
+-- src/visit.rt
 returns : tie.Need-returns
 unfolding plainFields
 returns c = rw (← plain-is) cc

@@ -6,15 +6,15 @@ use Rattle.design.proofs.visit.with_nets.Reads as reads
 use Rattle.design.proofs.visit.with_nets.Lts as lts
 use Rattle.logic.proofs.pick32.Reads as pick32-reads
 
--- src/visit.rt:45:12
+-- src/visit.rt
 pick32-requires : tie.Need-pick32-requires
 pick32-requires c κs = search needs
 
--- src/visit.rt:46:12
+-- src/visit.rt
 pick32-requires-2 : tie.Need-pick32-requires-2
 pick32-requires-2 c κs = search needs
 
--- src/visit.rt:38:1
+-- src/visit.rt
 returns : tie.Need-returns
 unfolding withNets
 returns c = cc

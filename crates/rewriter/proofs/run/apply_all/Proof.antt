@@ -8,19 +8,19 @@ use Rattle.rewriter.proofs.run.apply_all.Lts as lts
 use Rattle.design.proofs.queue.apply.Reads as apply-reads
 use Rattle.rewriter_state.proofs.stand.Reads as stand-reads
 
--- src/run.rt:111:5
+-- src/run.rt
 stand-requires : tie.Need-stand-requires
 stand-requires c κs = search needs
 
--- src/run.rt:112:5
+-- src/run.rt
 apply-requires : tie.Need-apply-requires
 apply-requires c κs = search needs
 
--- src/run.rt:107:1
+-- src/run.rt
 same-length : tie.Need-same-length
 same-length c = search needs
 
--- src/run.rt:107:1
+-- src/run.rt
 returns : tie.Need-returns
 returns c = search applies-all
 

@@ -9,23 +9,23 @@ use Rattle.design.proofs.queue.unchanged.Reads as unchanged-reads
 use Rattle.order.proofs.topo_sort.Reads as topo-sort-reads
 use Rattle.rewriter_state.proofs.clear_stamps.Reads as clear-stamps-reads
 
--- src/run.rt:121:9
+-- src/run.rt
 topo-sort-requires : tie.Need-topo-sort-requires
 topo-sort-requires c κs = search needs
 
--- src/run.rt:122:5
+-- src/run.rt
 unchanged-requires : tie.Need-unchanged-requires
 unchanged-requires c κs = search needs
 
--- src/run.rt:123:5
+-- src/run.rt
 clear-stamps-requires : tie.Need-clear-stamps-requires
 clear-stamps-requires c κs = search needs
 
--- src/run.rt:116:1
+-- src/run.rt
 same-length : tie.Need-same-length
 same-length c = search needs
 
--- src/run.rt:116:1
+-- src/run.rt
 returns : tie.Need-returns
 returns c = search run-begins
 

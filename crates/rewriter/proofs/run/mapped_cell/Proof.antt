@@ -10,23 +10,23 @@ use Rattle.design.proofs.queue.replaced_record.Reads as replaced-record-reads
 use Rattle.design.proofs.visit.plain.Reads as plain-reads
 use Rattle.netlist.proofs.record_in.Reads as record-in-reads
 
--- src/run.rt:46:36
+-- src/run.rt
 record-in-requires : tie.Need-record-in-requires
 record-in-requires c κs = search needs
 
--- src/run.rt:46:9
+-- src/run.rt
 plain-requires : tie.Need-plain-requires
 plain-requires c κs = search needs
 
--- src/run.rt:47:19
+-- src/run.rt
 replaced-record-requires : tie.Need-replaced-record-requires
 replaced-record-requires c κs = search needs
 
--- src/run.rt:47:5
+-- src/run.rt
 cell-of-requires : tie.Need-cell-of-requires
 cell-of-requires c κs = search needs
 
--- src/run.rt:42:1
+-- src/run.rt
 returns : tie.Need-returns
 returns c = search mapped-is
 

@@ -10,67 +10,67 @@ use Rattle.rewriter_state.proofs.become_cell.Reads as become-cell-reads
 use Rattle.rewriter_state.proofs.replace.Reads as replace-reads
 use Rattle.rewriter_state.proofs.stay.Reads as stay-reads
 
--- src/run.rt:66:11
+-- src/run.rt
 process-cell-requires : tie.Need-process-cell-requires
 process-cell-requires c κs = search needs
 
--- src/run.rt:67:25
+-- src/run.rt
 enum-known-y : tie.Need-enum-known-y
 enum-known-y c = search needs
 
--- src/run.rt:67:40
+-- src/run.rt
 stay-requires : tie.Need-stay-requires
 stay-requires c κs = search none-ready
 
--- src/run.rt:68:25
+-- src/run.rt
 enum-known-d : tie.Need-enum-known-d
 enum-known-d c = search needs
 
--- src/run.rt:68:43
+-- src/run.rt
 become-cell-requires : tie.Need-become-cell-requires
 become-cell-requires c κs = search cell-ready
 
--- src/run.rt:69:26
+-- src/run.rt
 enum-known-n : tie.Need-enum-known-n
 enum-known-n c = search needs
 
--- src/run.rt:69:44
+-- src/run.rt
 replace-requires : tie.Need-replace-requires
 replace-requires c κs = search value-ready
 
--- src/run.rt:70:28
+-- src/run.rt
 enum-told : tie.Need-enum-told
 enum-told c = search needs
 
--- src/run.rt:62:1
+-- src/run.rt
 same-length : tie.Need-same-length
 same-length c = search needs
 
--- src/run.rt:62:1
+-- src/run.rt
 returns : tie.Need-returns
 returns c = search none-on
 
--- src/run.rt:62:1
+-- src/run.rt
 same-length-2 : tie.Need-same-length-2
 same-length-2 c = search needs
 
--- src/run.rt:62:1
+-- src/run.rt
 returns-2 : tie.Need-returns-2
 returns-2 c = search cell-on
 
--- src/run.rt:62:1
+-- src/run.rt
 same-length-3 : tie.Need-same-length-3
 same-length-3 c = search needs
 
--- src/run.rt:62:1
+-- src/run.rt
 returns-3 : tie.Need-returns-3
 returns-3 c = search value-on
 
--- src/run.rt:62:1
+-- src/run.rt
 same-length-4 : tie.Need-same-length-4
 same-length-4 c = search needs
 
--- src/run.rt:62:1
+-- src/run.rt
 returns-4 : tie.Need-returns-4
 returns-4 c = search cell-full
 

@@ -11,47 +11,47 @@ use Rattle.rewriter.proofs.run.mapped_cell.Reads as mapped-cell-reads
 use Rattle.rewriter.proofs.run.run_bit.Reads as run-bit-reads
 use Rattle.rewriter.proofs.run.run_cell.Reads as run-cell-reads
 
--- src/run.rt:78:9
+-- src/run.rt
 mapped-cell-requires : tie.Need-mapped-cell-requires
 mapped-cell-requires c κs = search item-slot
 
--- src/run.rt:79:8
+-- src/run.rt
 has-effects-requires : tie.Need-has-effects-requires
 has-effects-requires c κs = search needs
 
--- src/run.rt:80:9
+-- src/run.rt
 same-length : tie.Need-same-length
 same-length c = search needs
 
--- src/run.rt:80:9
+-- src/run.rt
 returns : tie.Need-returns
 returns c = search item-effects
 
--- src/run.rt:82:8
+-- src/run.rt
 is-splittable-requires : tie.Need-is-splittable-requires
 is-splittable-requires c κs = search needs
 
--- src/run.rt:83:9
+-- src/run.rt
 run-bit-requires : tie.Need-run-bit-requires
 run-bit-requires c κs = search item-ready
 
--- src/run.rt:83:9
+-- src/run.rt
 same-length-2 : tie.Need-same-length-2
 same-length-2 c = search needs
 
--- src/run.rt:83:9
+-- src/run.rt
 returns-2 : tie.Need-returns-2
 returns-2 c = search item-bit
 
--- src/run.rt:85:5
+-- src/run.rt
 run-cell-requires : tie.Need-run-cell-requires
 run-cell-requires c κs = search item-ready
 
--- src/run.rt:74:1
+-- src/run.rt
 same-length-3 : tie.Need-same-length-3
 same-length-3 c = search needs
 
--- src/run.rt:74:1
+-- src/run.rt
 returns-3 : tie.Need-returns-3
 returns-3 c = search item-cell
 

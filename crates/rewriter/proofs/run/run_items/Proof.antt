@@ -16,59 +16,59 @@ Inv-loop work₀ count x₀ j₀ work x j = Rolling x₀ count work₀ work x j
 abbrev μ-loop : tie.MeasureT-loop
 μ-loop work₀ count x₀ j₀ work x j = count - j
 
--- src/run.rt:95:5
+-- src/run.rt
 loop-holds : tie.Need-loop-holds Inv-loop μ-loop
 loop-holds c = search rolling-none
 
--- src/run.rt:96:43
+-- src/run.rt
 cast-word : tie.Need-cast-word Inv-loop μ-loop
 cast-word c = search needs
 
--- src/run.rt:96:34
+-- src/run.rt
 add-word : tie.Need-add-word Inv-loop μ-loop
 add-word c = omega arith
 
--- src/run.rt:96:13
+-- src/run.rt
 word-requires : tie.Need-word-requires Inv-loop μ-loop
 word-requires c κs = search needs
 
--- src/run.rt:97:15
+-- src/run.rt
 run-item-requires : tie.Need-run-item-requires Inv-loop μ-loop
 run-item-requires c κs = search rolling-ready
 
--- src/run.rt:98:22
+-- src/run.rt
 enum-known-y : tie.Need-enum-known-y Inv-loop μ-loop
 enum-known-y c = search needs
 
--- src/run.rt:99:27
+-- src/run.rt
 enum-told : tie.Need-enum-told Inv-loop μ-loop
 enum-told c = search needs
 
--- src/run.rt:99:27
+-- src/run.rt
 same-length : tie.Need-same-length Inv-loop μ-loop
 same-length c = search needs
 
--- src/run.rt:99:27
+-- src/run.rt
 returns : tie.Need-returns Inv-loop μ-loop
 returns c = search rolling-full
 
--- src/run.rt:101:9
+-- src/run.rt
 add-j : tie.Need-add-j Inv-loop μ-loop
 add-j c = omega arith
 
--- src/run.rt:95:5
+-- src/run.rt
 loop-less : tie.Need-loop-less Inv-loop μ-loop
 loop-less c = omega arith
 
--- src/run.rt:95:5
+-- src/run.rt
 loop-again : tie.Need-loop-again Inv-loop μ-loop
 loop-again c = search rolling-more
 
--- src/run.rt:89:1
+-- src/run.rt
 same-length-2 : tie.Need-same-length-2 Inv-loop μ-loop
 same-length-2 c = search needs
 
--- src/run.rt:89:1
+-- src/run.rt
 returns-2 : tie.Need-returns-2 Inv-loop μ-loop
 returns-2 c = search rolling-end
 
