@@ -1,5 +1,4 @@
--- The arms of the rules: what each outcome is, and the tests that led there. A fact about the rules is proved arm by arm. The names are by the
--- definition's tests, not those of docs/ARMS.md; `definite_arms/specs/Taken.antt` (`aigName`, `xorName`) pairs the two. Assumes nothing.
+-- Every outcome of the rules is that of an arm. A fact about the rules is proved arm by arm. Assumes nothing.
 use mathlib.Core.Path.{_≡_, refl}
 use mathlib.Core.Bool.{true, false, not, _&&_, _||_}
 use Rattle.value.specs.declared.Net.{Net}
@@ -15,15 +14,8 @@ use Rattle.normalize.specs.declared.Outcome.the-variants.{None, Value, Form, No
 use Rattle.normalize.specs.Outcomes.{_orElse_, given, fromControl}
 use Rattle.aig.specs.Aig.{differ, notRule, aigOfNot, andAnd, andWith, aigOfAnd, nandAnd, xorOf, nandNand, nandWith, aigOfNand, xorAnd, xorWith, aigOfXor, aigOrder, andXor, xorXor, xorOrder}
 use Rattle.order_laws.proofs.Truth.{and-both, or-either}
-use Rattle.aig_laws.proofs.Strings.{HasAig, HasXor, has-orElse, has-given, has-ifNot, has-aig, has-plain-aig, has-xor}
-
--- `Cell::Not`
-pub data NotArm (src : Source) (n : Net) (o : Outcome) : Type 0 where
-  not-none : o ≡ None → NotArm src n o
-  not-zero : n ≡ ZERO → o ≡ Value ONE → NotArm src n o
-  not-one : n ≡ ONE → o ≡ Value ZERO → NotArm src n o
-  not-undef : n ≡ UNDEF → o ≡ Value UNDEF → NotArm src n o
-  not-not : (v : Net) → src ≡ Known (Not v) → o ≡ Value v → NotArm src n o
+use Rattle.aig_laws.specs.Arms.{NotArm, AigArm, XorArm, not-none, not-zero, not-one, not-undef, not-not, aig-none, aig-same, aig-opposite, aig-zero, aig-one, aig-not, and-same, and-opposite, and-and-same, and-and-opposite, nand-same, nand-opposite, nand-and-same, nand-and-opposite, nand-nand-same, nand-nand-opposite, xor-on, xor-and-on, xor-none, xor-same, xor-undef, xor-zero, xor-one, xor-not, xor-and, xor-nand, xor-xor, xor-both}
+use Rattle.aig_laws.proofs.Strings.{has-orElse, has-given, has-ifNot, has-aig, has-plain-aig, has-xor}
 
 pub notArm : (src : Source) (n : Net) → NotArm src n (notRule src n)
 unfolding notRule
@@ -34,35 +26,6 @@ notArm src n =
     (has-orElse G _ _ (has-given G z (eqNet n ONE) (Value ZERO) (λ e. not-one (net-test .same n ONE e) refl))
     (has-orElse G _ _ (has-given G z (eqNet n UNDEF) (Value UNDEF) (λ e. not-undef (net-test .same n UNDEF e) refl))
     (has-ifNot G z src (λ v. Value v) (λ v e. not-not v e refl))))
-
--- `Cell::Aig`, in one order of the operands
-pub data AigArm (srcA srcB : Source) (a b : ControlNet) (o : Outcome) : Type 0 where
-  aig-none : o ≡ None → AigArm srcA srcB a b o
-  aig-same : a ≡ b → o ≡ fromControl a → AigArm srcA srcB a b o
-  aig-opposite : a ≡ notControl b → o ≡ Value ZERO → AigArm srcA srcB a b o
-  aig-zero : isAlways b false ≡ true → o ≡ Value ZERO → AigArm srcA srcB a b o
-  aig-one : isAlways b true ≡ true → o ≡ fromControl a → AigArm srcA srcB a b o
-  aig-not : (v : Net) → srcA ≡ Known (Not v) → o ≡ Form (Aig (fromNetInvert v (not (isNegative a))) b) → AigArm srcA srcB a b o
-  and-same : (aa ab : ControlNet) → HasAig srcA aa ab → isPositive a ≡ true → aa ≡ b → o ≡ fromControl a → AigArm srcA srcB a b o
-  and-opposite : (aa ab : ControlNet) → HasAig srcA aa ab → isPositive a ≡ true → aa ≡ notControl b → o ≡ Value ZERO → AigArm srcA srcB a b o
-  and-and-same : (aa ab ba bb : ControlNet) → HasAig srcA aa ab → isPositive a ≡ true → HasAig srcB ba bb → isPositive b ≡ true → aa ≡ ba
-      → o ≡ Form (Aig a bb) → AigArm srcA srcB a b o
-  and-and-opposite : (aa ab ba bb : ControlNet) → HasAig srcA aa ab → isPositive a ≡ true → HasAig srcB ba bb → isPositive b ≡ true → aa ≡ notControl ba
-      → o ≡ Value ZERO → AigArm srcA srcB a b o
-  nand-same : (aa ab : ControlNet) → HasAig srcA aa ab → isNegative a ≡ true → aa ≡ b → o ≡ Form (Aig (notControl ab) b) → AigArm srcA srcB a b o
-  nand-opposite : (aa ab : ControlNet) → HasAig srcA aa ab → isNegative a ≡ true → aa ≡ notControl b → o ≡ fromControl b → AigArm srcA srcB a b o
-  nand-and-same : (aa ab ba bb : ControlNet) → HasAig srcA aa ab → isNegative a ≡ true → HasAig srcB ba bb → isPositive b ≡ true → aa ≡ ba
-      → o ≡ Form (Aig (notControl ab) b) → AigArm srcA srcB a b o
-  nand-and-opposite : (aa ab ba bb : ControlNet) → HasAig srcA aa ab → isNegative a ≡ true → HasAig srcB ba bb → isPositive b ≡ true → aa ≡ notControl ba
-      → o ≡ fromControl b → AigArm srcA srcB a b o
-  nand-nand-same : (aa ab ba bb : ControlNet) → HasAig srcA aa ab → isNegative a ≡ true → HasAig srcB ba bb → isNegative b ≡ true → aa ≡ notControl ba
-      → ab ≡ bb → o ≡ fromControl (notControl ab) → AigArm srcA srcB a b o
-  nand-nand-opposite : (aa ab ba bb : ControlNet) → HasAig srcA aa ab → isNegative a ≡ true → HasAig srcB ba bb → isNegative b ≡ true → aa ≡ notControl ba
-      → ab ≡ notControl bb → o ≡ xorOf aa ab → AigArm srcA srcB a b o
-  xor-on : (aa ab : Net) → HasXor srcA aa ab → aa ≡ net b
-      → o ≡ Form (Aig (fromNetInvert ab (not (differ (isNegative a) (isNegative b)))) b) → AigArm srcA srcB a b o
-  xor-and-on : (aa ab : Net) (ba bb : ControlNet) → HasXor srcA aa ab → HasAig srcB ba bb → isPositive b ≡ true → aa ≡ net ba
-      → o ≡ Form (Aig (fromNetInvert ab (not (differ (isNegative a) (isNegative ba)))) b) → AigArm srcA srcB a b o
 
 module _ (srcA srcB : Source) (a b : ControlNet) where
   abbrev G : Outcome → Type 0
@@ -114,19 +77,6 @@ module _ (srcA srcB : Source) (a b : ControlNet) where
       (has-orElse G _ _ (has-given G z (isAlways b true) (fromControl a) (λ e. aig-one e refl))
       (has-orElse G _ _ (has-ifNot G z srcA _ (λ v e. aig-not v e refl))
       (has-orElse G _ _ and-arm (has-orElse G _ _ nand-arm xor-arm)))))
-
--- `Cell::Xor`, in one order of the operands
-pub data XorArm (srcA srcB : Source) (a b : Net) (o : Outcome) : Type 0 where
-  xor-none : o ≡ None → XorArm srcA srcB a b o
-  xor-same : a ≡ b → o ≡ Value ZERO → XorArm srcA srcB a b o
-  xor-undef : b ≡ UNDEF → o ≡ Value UNDEF → XorArm srcA srcB a b o
-  xor-zero : b ≡ ZERO → o ≡ Value a → XorArm srcA srcB a b o
-  xor-one : b ≡ ONE → o ≡ Form (Not a) → XorArm srcA srcB a b o
-  xor-not : (v : Net) → srcA ≡ Known (Not v) → o ≡ NotOf (Xor v b) → XorArm srcA srcB a b o
-  xor-and : (aa ab : ControlNet) → HasAig srcA aa ab → aa ≡ Pos b → o ≡ Form (Aig aa (notControl ab)) → XorArm srcA srcB a b o
-  xor-nand : (aa ab : ControlNet) → HasAig srcA aa ab → aa ≡ Neg b → o ≡ NotOf (Aig aa (notControl ab)) → XorArm srcA srcB a b o
-  xor-xor : (aa ab : Net) → HasXor srcA aa ab → aa ≡ b → o ≡ Value ab → XorArm srcA srcB a b o
-  xor-both : (aa ab ba bb : Net) → HasXor srcA aa ab → HasXor srcB ba bb → aa ≡ ba → o ≡ Form (Xor ab bb) → XorArm srcA srcB a b o
 
 pub xorArm : (srcA srcB : Source) (a b : Net) → XorArm srcA srcB a b (xorOrder srcA srcB a b)
 unfolding xorOrder andXor xorXor

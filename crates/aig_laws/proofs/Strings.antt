@@ -11,17 +11,7 @@ use Rattle.normalize.specs.declared.Outcome.{Outcome}
 use Rattle.normalize.specs.declared.Outcome.the-variants.{None, Value, Form, Add, NotOf, AddNotOf}
 use Rattle.normalize.specs.Outcomes.{_orElse_, given, eitherWay}
 use Rattle.aig.specs.Aig.{ifNot, ifAig, ifXor}
-
--- a source is a cell with these two operands, in either order
-pub data Has {A : Type 0} (make : A → A → Cell) (src : Source) (p q : A) : Type 0 where
-  as-is : src ≡ Known (make p q) → Has make src p q
-  turned : src ≡ Known (make q p) → Has make src p q
-
-abbrev pub HasAig : Source → ControlNet → ControlNet → Type 0
-HasAig = Has Aig
-
-abbrev pub HasXor : Source → Net → Net → Type 0
-HasXor = Has Xor
+use Rattle.aig_laws.specs.Arms.{Has, as-is, turned, HasAig, HasXor}
 
 pub has-turned : {A : Type 0} (make : A → A → Cell) (src : Source) (p q : A) → Has make src p q → Has make src q p
 has-turned make src p q (as-is e) = turned e

@@ -1,6 +1,6 @@
 -- A cell, its record and the record's bytes: each way and back. Assumes nothing.
-use mathlib.Core.Path.{_≡_, refl, sym, ap, ap₂, _∙_}
-use mathlib.Core.Bool.{Bool, true, false, true≢false}
+use mathlib.Core.Path.{_≡_, refl, sym, ap, ap₂, _∙_, subst}
+use mathlib.Core.Bool.{Bool, true, false, false≢true}
 use mathlib.Core.List.{List, [], _∷_, _++_}
 use Prim.Native.Nat.{ℕ, zero, suc, _+_, _*_, _/_, _%_, _<_, _≤_}
 use native.Mathlib.Omega.{arith}
@@ -16,12 +16,15 @@ use Rattle.kinds.specs.declared.Use.the-variants.{Unused, Label, Operand}
 use Rattle.cell.specs.declared.Cell.{Cell}
 use Rattle.cell.specs.declared.Cell.the-variants.{Input, Output, Buf, Not, And, Or, Xor, Mux, Aig}
 use Rattle.cell.specs.Bytes.{word16, word32, bytes16, bytes32}
-use Rattle.kinds.specs.Kinds.{kindOf}
-use Rattle.cell.specs.Records.{recordOf, recordAt, bytesOf, cellOf, cellRecord}
+use Rattle.kinds.specs.declared.Sort.{Sort}
+use Rattle.kinds.specs.declared.Sort.the-variants as sort
+use Rattle.kinds.specs.Kinds.{sortOf, numberOf, kindTable, kindOf}
+use Rattle.kinds.proofs.Laws.{number-back}
+use Rattle.cell.specs.Records.{recordOf, recordAt, bytesOf, cellBy, cellOf, cellRecord}
 
 -- cell -> record -> cell
 pub cell-back : (bit : ℕ) (c : Cell) → cellOf (cellRecord bit c) ≡ c
-unfolding cellOf cellRecord
+unfolding cellOf cellRecord sortOf
 cell-back bit (Input l) = refl
 cell-back bit (Output a l) = refl
 cell-back bit (Buf a) = refl
@@ -41,6 +44,12 @@ ZeroIf Unused x = x ≡ 0
 ZeroIf Label x = Unit {0}
 ZeroIf Operand x = Unit {0}
 
+record WellFormedAs (s : Sort) (r : Record) : Type 0 where
+  known : kindTable s .known ≡ true
+  b : ZeroIf (kindTable s .b) (r .b)
+  c : ZeroIf (kindTable s .c) (r .c)
+  flags : r .flags ≤ kindTable s .flags
+
 pub record WellFormed (r : Record) : Type 0 where
   pub known : kindOf (r .kind) .known ≡ true
   pub a : ZeroIf (kindOf (r .kind) .a) (r .a)
@@ -48,30 +57,32 @@ pub record WellFormed (r : Record) : Type 0 where
   pub c : ZeroIf (kindOf (r .kind) .c) (r .c)
   pub flags : r .flags ≤ kindOf (r .kind) .flags
 
-never : {A : Type 0} → false ≡ true → A
-never e = absurd (true≢false (sym e))
-
--- by kind, and by flags for an and-inverter
-back : (k f bit a b c : ℕ) → WellFormed (recordOf k f bit a b c) → cellRecord bit (cellOf (recordOf k f bit a b c)) ≡ recordOf k f bit a b c
-unfolding cellOf cellRecord kindOf
-back zero f bit a b c w = never (w .known)
-back (suc zero) f bit a b c w = let e : f ≡ 0 = omega (arith, w .flags) in rw (e, w .b, w .c)
-back (suc (suc zero)) f bit a b c w = let e : f ≡ 0 = omega (arith, w .flags) in rw (e, w .c)
-back (suc (suc (suc zero))) f bit a b c w = let e : f ≡ 0 = omega (arith, w .flags) in rw (e, w .b, w .c)
-back (suc (suc (suc (suc zero)))) f bit a b c w = let e : f ≡ 0 = omega (arith, w .flags) in rw (e, w .b, w .c)
-back (suc (suc (suc (suc (suc zero))))) f bit a b c w = let e : f ≡ 0 = omega (arith, w .flags) in rw (e, w .c)
-back (suc (suc (suc (suc (suc (suc zero)))))) f bit a b c w = let e : f ≡ 0 = omega (arith, w .flags) in rw (e, w .c)
-back (suc (suc (suc (suc (suc (suc (suc zero))))))) f bit a b c w = let e : f ≡ 0 = omega (arith, w .flags) in rw (e, w .c)
-back (suc (suc (suc (suc (suc (suc (suc (suc zero)))))))) f bit a b c w = let e : f ≡ 0 = omega (arith, w .flags) in rw e
-back (suc (suc (suc (suc (suc (suc (suc (suc (suc zero))))))))) zero bit a b c w = rw (w .c)
-back (suc (suc (suc (suc (suc (suc (suc (suc (suc zero))))))))) (suc zero) bit a b c w = rw (w .c)
-back (suc (suc (suc (suc (suc (suc (suc (suc (suc zero))))))))) (suc (suc zero)) bit a b c w = rw (w .c)
-back (suc (suc (suc (suc (suc (suc (suc (suc (suc zero))))))))) (suc (suc (suc zero))) bit a b c w = rw (w .c)
-back (suc (suc (suc (suc (suc (suc (suc (suc (suc zero))))))))) (suc (suc (suc (suc f)))) bit a b c w = absurd (omega (arith, w .flags))
-back (suc (suc (suc (suc (suc (suc (suc (suc (suc (suc k)))))))))) f bit a b c w = never (w .known)
+-- by sort, and by flags for an and-inverter
+back : (s : Sort) (f bit a b c : ℕ) → WellFormedAs s (recordOf (numberOf s) f bit a b c)
+    → cellRecord bit (cellBy s (recordOf (numberOf s) f bit a b c)) ≡ recordOf (numberOf s) f bit a b c
+unfolding cellRecord
+back sort.Unknown f bit a b c w = absurd (false≢true (w .known))
+back sort.Input f bit a b c w = let e : f ≡ 0 = omega (arith, w .flags) in rw (e, w .b, w .c)
+back sort.Output f bit a b c w = let e : f ≡ 0 = omega (arith, w .flags) in rw (e, w .c)
+back sort.Buf f bit a b c w = let e : f ≡ 0 = omega (arith, w .flags) in rw (e, w .b, w .c)
+back sort.Not f bit a b c w = let e : f ≡ 0 = omega (arith, w .flags) in rw (e, w .b, w .c)
+back sort.And f bit a b c w = let e : f ≡ 0 = omega (arith, w .flags) in rw (e, w .c)
+back sort.Or f bit a b c w = let e : f ≡ 0 = omega (arith, w .flags) in rw (e, w .c)
+back sort.Xor f bit a b c w = let e : f ≡ 0 = omega (arith, w .flags) in rw (e, w .c)
+back sort.Mux f bit a b c w = let e : f ≡ 0 = omega (arith, w .flags) in rw e
+back sort.Aig zero bit a b c w = rw (w .c)
+back sort.Aig (suc zero) bit a b c w = rw (w .c)
+back sort.Aig (suc (suc zero)) bit a b c w = rw (w .c)
+back sort.Aig (suc (suc (suc zero))) bit a b c w = rw (w .c)
+back sort.Aig (suc (suc (suc (suc f)))) bit a b c w = absurd (omega (arith, w .flags))
 
 pub record-back : (r : Record) → WellFormed r → cellRecord (r .bit) (cellOf r) ≡ r
-record-back r w = back (r .kind) (r .flags) (r .bit) (r .a) (r .b) (r .c) w
+unfolding cellOf kindOf
+record-back r w =
+    let s = sortOf (r .kind) in
+    let at : ℕ → Record = λ k. recordOf k (r .flags) (r .bit) (r .a) (r .b) (r .c) in
+    subst (λ (k : ℕ). cellRecord (r .bit) (cellBy s (at k)) ≡ at k) (number-back (r .kind) (w .known))
+    (back s (r .flags) (r .bit) (r .a) (r .b) (r .c) (record { known = w .known; b = w .b; c = w .c; flags = w .flags }))
 
 -- record -> bytes -> record, where each field has its range
 pub record Ranged (r : Record) : Type 0 where

@@ -6,7 +6,10 @@ use lib.Dec.{eqb}
 use lib.ListN.{length, getD}
 use Rattle.value.specs.declared.Net.{Net}
 use Rattle.value.specs.declared.ControlNet.{ControlNet}
-use Rattle.value.specs.Value.{netAt, fromNetInvert, net, isNegative}
+use Rattle.value.specs.Value.{ZERO, netAt, fromNetInvert, net, isNegative}
+use Rattle.kinds.specs.declared.Sort.{Sort}
+use Rattle.kinds.specs.declared.Sort.the-variants as sort
+use Rattle.kinds.specs.Kinds.{sortOf, numberOf}
 use Rattle.cell.specs.declared.Record.{Record}
 use Rattle.cell.specs.declared.Cell.{Cell}
 use Rattle.cell.specs.declared.Cell.the-variants.{Input, Output, Buf, Not, And, Or, Xor, Mux, Aig}
@@ -38,27 +41,30 @@ bytesOf r = r .kind ∷ r .flags ∷ (bytes16 (r .bit) ++ (bytes32 (r .a) ++ (by
 abbrev pub flagsOf : ControlNet → ControlNet → ℕ
 flagsOf p q = cond (isNegative p) 1 0 + cond (isNegative q) 2 0
 
--- the cell of a record of a known kind; any other is not asked for (it would give an and-inverter)
+-- the cell of a record, by its sort. No record of an unknown kind gets here; as a buffer of a constant it would read no slot
+abbrev pub cellBy : Sort → Record → Cell
+cellBy sort.Unknown r = Buf ZERO
+cellBy sort.Input r = Input (r .a)
+cellBy sort.Output r = Output (netAt (r .a)) (r .b)
+cellBy sort.Buf r = Buf (netAt (r .a))
+cellBy sort.Not r = Not (netAt (r .a))
+cellBy sort.And r = And (netAt (r .a)) (netAt (r .b))
+cellBy sort.Or r = Or (netAt (r .a)) (netAt (r .b))
+cellBy sort.Xor r = Xor (netAt (r .a)) (netAt (r .b))
+cellBy sort.Mux r = Mux (netAt (r .a)) (netAt (r .b)) (netAt (r .c))
+cellBy sort.Aig r = Aig (fromNetInvert (netAt (r .a)) (eqb (r .flags % 2) 1)) (fromNetInvert (netAt (r .b)) (eqb (r .flags / 2 % 2) 1))
+
 unfoldable pub cellOf : Record → Cell
-cellOf r =
-    cond (eqb (r .kind) 1) (Input (r .a))
-    (cond (eqb (r .kind) 2) (Output (netAt (r .a)) (r .b))
-    (cond (eqb (r .kind) 3) (Buf (netAt (r .a)))
-    (cond (eqb (r .kind) 4) (Not (netAt (r .a)))
-    (cond (eqb (r .kind) 5) (And (netAt (r .a)) (netAt (r .b)))
-    (cond (eqb (r .kind) 6) (Or (netAt (r .a)) (netAt (r .b)))
-    (cond (eqb (r .kind) 7) (Xor (netAt (r .a)) (netAt (r .b)))
-    (cond (eqb (r .kind) 8) (Mux (netAt (r .a)) (netAt (r .b)) (netAt (r .c)))
-    (Aig (fromNetInvert (netAt (r .a)) (eqb (r .flags % 2) 1)) (fromNetInvert (netAt (r .b)) (eqb (r .flags / 2 % 2) 1))))))))))
+cellOf r = cellBy (sortOf (r .kind)) r
 
 -- the record of a cell that is bit number `bit` of its cell
 unfoldable pub cellRecord : ℕ → Cell → Record
-cellRecord bit (Input l) = recordOf 1 0 bit l 0 0
-cellRecord bit (Output a l) = recordOf 2 0 bit (a .0) l 0
-cellRecord bit (Buf a) = recordOf 3 0 bit (a .0) 0 0
-cellRecord bit (Not a) = recordOf 4 0 bit (a .0) 0 0
-cellRecord bit (And a b) = recordOf 5 0 bit (a .0) (b .0) 0
-cellRecord bit (Or a b) = recordOf 6 0 bit (a .0) (b .0) 0
-cellRecord bit (Xor a b) = recordOf 7 0 bit (a .0) (b .0) 0
-cellRecord bit (Mux a b c) = recordOf 8 0 bit (a .0) (b .0) (c .0)
-cellRecord bit (Aig p q) = recordOf 9 (flagsOf p q) bit (net p .0) (net q .0) 0
+cellRecord bit (Input l) = recordOf (numberOf sort.Input) 0 bit l 0 0
+cellRecord bit (Output a l) = recordOf (numberOf sort.Output) 0 bit (a .0) l 0
+cellRecord bit (Buf a) = recordOf (numberOf sort.Buf) 0 bit (a .0) 0 0
+cellRecord bit (Not a) = recordOf (numberOf sort.Not) 0 bit (a .0) 0 0
+cellRecord bit (And a b) = recordOf (numberOf sort.And) 0 bit (a .0) (b .0) 0
+cellRecord bit (Or a b) = recordOf (numberOf sort.Or) 0 bit (a .0) (b .0) 0
+cellRecord bit (Xor a b) = recordOf (numberOf sort.Xor) 0 bit (a .0) (b .0) 0
+cellRecord bit (Mux a b c) = recordOf (numberOf sort.Mux) 0 bit (a .0) (b .0) (c .0)
+cellRecord bit (Aig p q) = recordOf (numberOf sort.Aig) (flagsOf p q) bit (net p .0) (net q .0) 0

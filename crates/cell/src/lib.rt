@@ -1,6 +1,7 @@
 // Records of a ticket and one-bit cells, after cell.rs. A record is read out of the ticket's bytes and
 // written into a reply. Readers and writers of single bytes and words are total, so that nothing above has
 // an index to prove; a record is read of a slot that the ticket has, without a test at each byte.
+use kinds::Sort;
 use value::ControlNet;
 use value::Driver;
 use value::Net;
@@ -260,21 +261,21 @@ pub fn edge_at(r: Record, f: u32) -> Edge
     Edge::Nowhere
 }
 
-// The cell of a record of a known kind.
+// The cell of a record. None of an unknown kind gets here; as a buffer of a constant it would read no slot.
 pub fn cell_of(r: Record) -> Cell
     ensures { λ x. ⌜ x ≡ cellOf r ⌝ }
 {
-    let kind = r.kind;
-    match kind {
-        1 => Cell::Input(r.a),
-        2 => Cell::Output(Net(r.a), r.b),
-        3 => Cell::Buf(Net(r.a)),
-        4 => Cell::Not(Net(r.a)),
-        5 => Cell::And(Net(r.a), Net(r.b)),
-        6 => Cell::Or(Net(r.a), Net(r.b)),
-        7 => Cell::Xor(Net(r.a), Net(r.b)),
-        8 => Cell::Mux(Net(r.a), Net(r.b), Net(r.c)),
-        _ => Cell::Aig(
+    match kinds::sort_of(r.kind) {
+        Sort::Unknown => Cell::Buf(Net::ZERO),
+        Sort::Input => Cell::Input(r.a),
+        Sort::Output => Cell::Output(Net(r.a), r.b),
+        Sort::Buf => Cell::Buf(Net(r.a)),
+        Sort::Not => Cell::Not(Net(r.a)),
+        Sort::And => Cell::And(Net(r.a), Net(r.b)),
+        Sort::Or => Cell::Or(Net(r.a), Net(r.b)),
+        Sort::Xor => Cell::Xor(Net(r.a), Net(r.b)),
+        Sort::Mux => Cell::Mux(Net(r.a), Net(r.b), Net(r.c)),
+        Sort::Aig => Cell::Aig(
             ControlNet::from_net_invert(Net(r.a), r.flags % 2 == 1),
             ControlNet::from_net_invert(Net(r.b), r.flags / 2 % 2 == 1),
         ),
@@ -314,14 +315,14 @@ pub fn cell_record(bit: u16, c: Cell) -> Record
     ensures { λ r. ⌜ r ≡ cellRecord bit c ⌝ }
 {
     match c {
-        Cell::Input(l) => record_of(1, 0, bit, l, 0, 0),
-        Cell::Output(x, l) => record_of(2, 0, bit, x.0, l, 0),
-        Cell::Buf(x) => record_of(3, 0, bit, x.0, 0, 0),
-        Cell::Not(x) => record_of(4, 0, bit, x.0, 0, 0),
-        Cell::And(x, y) => record_of(5, 0, bit, x.0, y.0, 0),
-        Cell::Or(x, y) => record_of(6, 0, bit, x.0, y.0, 0),
-        Cell::Xor(x, y) => record_of(7, 0, bit, x.0, y.0, 0),
-        Cell::Mux(x, y, z) => record_of(8, 0, bit, x.0, y.0, z.0),
-        Cell::Aig(p, q) => record_of(9, flags_of(p, q), bit, p.net().0, q.net().0, 0),
+        Cell::Input(l) => record_of(kinds::INPUT, 0, bit, l, 0, 0),
+        Cell::Output(x, l) => record_of(kinds::OUTPUT, 0, bit, x.0, l, 0),
+        Cell::Buf(x) => record_of(kinds::BUF, 0, bit, x.0, 0, 0),
+        Cell::Not(x) => record_of(kinds::NOT, 0, bit, x.0, 0, 0),
+        Cell::And(x, y) => record_of(kinds::AND, 0, bit, x.0, y.0, 0),
+        Cell::Or(x, y) => record_of(kinds::OR, 0, bit, x.0, y.0, 0),
+        Cell::Xor(x, y) => record_of(kinds::XOR, 0, bit, x.0, y.0, 0),
+        Cell::Mux(x, y, z) => record_of(kinds::MUX, 0, bit, x.0, y.0, z.0),
+        Cell::Aig(p, q) => record_of(kinds::AIG, flags_of(p, q), bit, p.net().0, q.net().0, 0),
     }
 }

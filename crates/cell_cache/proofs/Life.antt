@@ -11,7 +11,7 @@ use Rattle.cell.specs.Tabulate.{tabulate}
 use Rattle.netlist.specs.Shape.{hasEffects}
 use Rattle.netlist.specs.Netlist.{cellIn, those}
 use Rattle.netlist.proofs.Frames.{tabulate-same}
-use Rattle.order.proofs.Bits.{those-append}
+use Rattle.netlist.proofs.Lists.{those-append}
 use Rattle.design.specs.Queue.{Entry, netIn}
 use Rattle.cell_cache.specs.CellCache.{inserted, addedAt, withoutEffects, cellCache}
 

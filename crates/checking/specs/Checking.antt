@@ -11,7 +11,8 @@ use Rattle.cell.specs.declared.Record.{Record}
 use Rattle.kinds.specs.declared.Use.{Use}
 use Rattle.kinds.specs.declared.Use.the-variants.{Unused, Label, Operand}
 use Rattle.cell.specs.Limits.{workWords, maxRecords}
-use Rattle.kinds.specs.Kinds.{kindOf}
+use Rattle.kinds.specs.declared.Sort.the-variants as sort
+use Rattle.kinds.specs.Kinds.{numberOf, kindOf}
 use Rattle.cell.specs.Operands.{fieldOf, isOperand}
 use Rattle.cell.specs.Records.{recordsOf, recordIn}
 use Rattle.loops.specs.Reach.{onLoop}
@@ -47,12 +48,9 @@ unfoldable pub bitOutOfSequence : List Record → ℕ → Bool
 bitOutOfSequence rs s = outOfSequence s (recordIn rs (s - 1)) (recordIn rs s)
 
 -- 7: a net is no constant and either names no slot of the ticket or names one whose kind byte is an output's
-abbrev pub outputKind : ℕ
-outputKind = 2
-
 abbrev pub undriven : List Record → Driver → Bool
 undriven rs (driven.Const t) = false
-undriven rs (driven.Cell s) = not (ltb (s .0) (length rs)) || eqb (recordIn rs (s .0) .kind) outputKind
+undriven rs (driven.Cell s) = not (ltb (s .0) (length rs)) || eqb (recordIn rs (s .0) .kind) (numberOf sort.Output)
 
 unfoldable pub undrivenField : List Record → Record → ℕ → Bool
 undrivenField rs r f = isOperand r f && undriven rs (driver (netAt (fieldOf r f)))

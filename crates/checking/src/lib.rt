@@ -131,7 +131,7 @@ fn undriven(t: &[u8], n: u32, d: Driver) -> bool
             if n <= s.0 {
                 return true;
             }
-            cell::kind_at(t, s) == 2
+            cell::kind_at(t, s) == kinds::OUTPUT
         }
     }
 }

@@ -26,14 +26,14 @@ use Rattle.netlist.specs.Areas.{wordRecord, recordsIn, marksIn, visitedAt, orde
 use Rattle.netlist.specs.Shape.{visitMut}
 use Rattle.netlist.specs.Netlist.{Netlist, slots, those, startOf, cellIn, joined, encode, ticketOf}
 use Rattle.order.specs.Descent.{bitsIn}
-use Rattle.order.proofs.Bits.{those-append}
+use Rattle.netlist.proofs.Lists.{those-append}
 use Rattle.order.proofs.Words.{marks-length}
 use Rattle.design.specs.Queue.{netIn}
 use Rattle.compact.specs.Compact.{keep, isKept, keptSlots, countKept, netMap, compact}
-use Rattle.design.specs.Words.{netlistIn, renamedRecord}
+use Rattle.design.specs.Words.{netlistIn}
 use Rattle.compact.specs.Words.{renumberedIn, Noted, Numbered, keptAt, keptIn, renumberedRecord, keptBytes}
-use Rattle.design.specs.Fields.{renamedFields}
-use Rattle.design.proofs.Visiting.{renamed-plain}
+use Rattle.netlist.specs.Fields.{renamedFields, renamedRecord}
+use Rattle.netlist.proofs.Operands.{renamed-plain}
 use Rattle.design.proofs.Lists.{map-append, map-at}
 use Rattle.compact.proofs.Lists.{tabulate-map, map-those, ticket-append, ticket-length}
 use Rattle.design.proofs.Words.{bits-length, cells-length, bit-at, cell-at}
@@ -235,10 +235,6 @@ module _ (n : ℕ) (ws : List ℕ) (x : Net) (d : Driver) (d-is : d ≡ driver x
   unfolding netMap
   map-cell s e k f y g = g ∙ rw (← d-is, e, f)
 
-renumbered-zero : (n : ℕ) (ws : List ℕ) → renumberedIn n ws (netAt 0) ≡ netAt 0
-unfolding netMap driver
-renumbered-zero n ws = refl
-
 -- the records of the kept slots
 abbrev keptRecords : ℕ → List ℕ → ℕ → List Record
 keptRecords n ws s = map (renumberedRecord n ws) (keptSlots (netlistIn n ws .bits) (marksIn visitedAt n ws) s)
@@ -277,7 +273,7 @@ module _ (n : ℕ) (ws : List ℕ) (s : ℕ) (b : Bool) (b-is : b ≡ keptAt n w
     pub copied : (q : Record) → q ≡ wordRecord ws s → (p : Record) → p ≡ cellRecord (q .bit) (cellOf q) → (r : Record) → r ≡ renamedFields (renumberedIn n ws) p → (at : ℕ) (reply reply′ : List ℕ) → reply′ ≡ sets reply (at * 16) (bytesOf r) → reply′ ≡ sets reply (at * 16) (keptBytes n ws s)
     unfolding keptBytes
     copied q i p h r f at reply reply′ g =
-        let new : r ≡ renumberedRecord n ws s = f ∙ renamed-plain (renumberedIn n ws) (renumbered-zero n ws) q p h ∙ ap (renamedRecord (renumberedIn n ws)) i in
+        let new : r ≡ renumberedRecord n ws s = f ∙ renamed-plain (renumberedIn n ws) q p h ∙ ap (renamedRecord (renumberedIn n ws)) i in
         g ∙ rw (← b-is, e, new)
 
     pub copied-next : (at : ℕ) → at + 1 ≡ at + cond (keptAt n ws s) 1 0

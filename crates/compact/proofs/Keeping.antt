@@ -19,7 +19,7 @@ use Rattle.netlist.proofs.Frames.{record-kept, records-kept}
 use Rattle.order.specs.Walk.{Walk, walkFrom, fresh}
 use Rattle.order.specs.Code.{walkOf, cellsBy, Ready, Walks, Clears}
 use Rattle.order.proofs.Walking.{walks-none, walks-ready, walks-then, cleared-ready, cleared-records, cleared-then, cleared-walked}
-use Rattle.order.proofs.Bits.{those-append}
+use Rattle.netlist.proofs.Lists.{those-append}
 use Rattle.compact.specs.Compact.{keep}
 use Rattle.design.specs.Words.{netlistIn}
 use Rattle.compact.specs.Words.{isRoot, rootAt, Marked}

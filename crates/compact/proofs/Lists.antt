@@ -12,7 +12,7 @@ use Rattle.cell.specs.Records.{bytesOf}
 use Rattle.cell.specs.Tabulate.{tabulate}
 use Rattle.cell.proofs.Lists.{tabulate-length, tabulate-at}
 use Rattle.netlist.specs.Netlist.{slots, those, joined, ticketOf}
-use Rattle.order.proofs.Bits.{those-append}
+use Rattle.netlist.proofs.Lists.{those-append}
 use Rattle.design.proofs.Lists.{map-append, map-at}
 
 module _ {A : Type 0} (p : A → Bool) where

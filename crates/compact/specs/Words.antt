@@ -11,7 +11,8 @@ use Rattle.cell.specs.declared.Record.{Record}
 use Rattle.cell.specs.Records.{cellOf, bytesOf}
 use Rattle.netlist.specs.Areas.{wordRecord, recordsIn, marksIn, visitedAt, orderAt, replacedAt, Within}
 use Rattle.netlist.specs.Shape.{hasEffects}
-use Rattle.design.specs.Words.{netlistIn, renamedRecord}
+use Rattle.netlist.specs.Fields.{renamedRecord}
+use Rattle.design.specs.Words.{netlistIn}
 use Rattle.compact.specs.Compact.{keep, isKept, countKept, netMap}
 
 -- a slot where an input or an output starts, and it as a list of one

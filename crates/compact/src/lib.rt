@@ -1,7 +1,7 @@
 // `Design::compact`, after its `apply`: inputs, outputs and the cells that they reach, slot after slot, under new numbers.
 use cell::Record;
-use design::visit;
 use netlist::area;
+use netlist::fields;
 use value::Driver;
 use value::Net;
 use value::Slot;
@@ -13,7 +13,7 @@ ghost use lib.Seq.{sets};
 ghost use Rattle.order.specs.Code.{Ready, Walks, cellsBy};
 ghost use Rattle.netlist.specs.Areas.{marksIn, visitedAt};
 ghost use Rattle.netlist.specs.Netlist.{encode, ticketOf};
-ghost use Rattle.design.specs.Fields.{renamedFields};
+ghost use Rattle.netlist.specs.Fields.{renamedFields};
 ghost use Rattle.design.specs.Words.{netlistIn};
 ghost use Rattle.compact.specs.Compact.{keep, compact};
 ghost use Rattle.compact.specs.Words.{renumberedIn, isRoot, rootAt, Marked, Noted, Numbered, Notes, Keeps, keptAt, keptIn, keptBytes};
@@ -162,10 +162,10 @@ fn renumbered_record(work: &[u32], n: u32, r: Record, s: Slot, at: u32) -> Recor
     requires { ⌜ Numbered n (s .0) at (now work) ⌝ }
     ensures { λ x. ⌜ x ≡ renamedFields (renumberedIn n (now (work .entry))) r ⌝ }
 {
-    let a = net_map(work, n, visit::net_a(r), s, at);
-    let b = net_map(work, n, visit::net_b(r), s, at);
-    let c = net_map(work, n, Net(r.c), s, at);
-    visit::with_nets(r, a, b, c)
+    let a = net_map(work, n, fields::net_a(r), s, at);
+    let b = net_map(work, n, fields::net_b(r), s, at);
+    let c = net_map(work, n, fields::net_c(r), s, at);
+    fields::with_nets(r, a, b, c)
 }
 
 // Writes the record of a slot, if it is kept, and gives the number of the next.
@@ -176,7 +176,7 @@ fn copy_kept(work: &[u32], n: u32, s: Slot, reply: &mut [u8], at: u32) -> u32
     ensures { λ _. ⌜ now (reply .exit) ≡ sets (now (reply .entry)) (at * 16) (keptBytes n (now (work .entry)) (s .0)) ⌝ }
 {
     if is_noted(work, n, s) {
-        let own = visit::plain(netlist::record_in(work, s));
+        let own = fields::plain(netlist::record_in(work, s));
         cell::write_record(reply, Slot(at), renumbered_record(work, n, own, s, at));
         return at + 1;
     }

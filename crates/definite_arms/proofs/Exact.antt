@@ -12,9 +12,9 @@ use Rattle.value.specs.Value.{net, isPositive, isNegative}
 use Rattle.cell.specs.declared.Cell.{Cell}
 use Rattle.design.specs.declared.Source.{Source}
 use Rattle.normalize.specs.declared.Outcome.{Outcome}
-use Rattle.aig_laws.proofs.Strings.{HasAig}
-use Rattle.aig_laws.proofs.Arms as tested
-use Rattle.aig_laws.proofs.Arms.{AigArm, XorArm}
+use Rattle.aig_laws.specs.Arms.{HasAig}
+use Rattle.aig_laws.specs.Arms as tested
+use Rattle.aig_laws.specs.Arms.{AigArm, XorArm}
 use Rattle.levels_laws.specs.Algebra.{controlValue, cellValue}
 use Rattle.levels_laws.specs.Instances.{kleene}
 use Rattle.rewrite_kept.specs.Outcomes.{gateLevel, Constants, outcomeLevel}

@@ -20,8 +20,8 @@ use Rattle.normalize.specs.Outcomes.{_orElse_}
 use Rattle.normalize.specs.Normalize.{normalize}
 use Rattle.aig.specs.Aig.{differ, simpleAigOpt}
 use Rattle.order_laws.specs.Members.{All}
-use Rattle.aig_laws.proofs.Arms as tested
-use Rattle.aig_laws.proofs.Arms.{NotArm, AigArm, XorArm}
+use Rattle.aig_laws.specs.Arms as tested
+use Rattle.aig_laws.specs.Arms.{NotArm, AigArm, XorArm}
 use Rattle.rewrite_kept.specs.Outcomes.{gateLevel, outcomeLevel, Constants, SourceFits}
 use Rattle.definite_arms.specs.Arms as arm
 use Rattle.definite_arms.specs.Arms.{Name, makesDefinite, Case, arms}

@@ -22,12 +22,12 @@ use Rattle.netlist.specs.Netlist.{Netlist, netlistOf, slots, anyOf}
 use Rattle.netlist.proofs.Frames.{within-none, within-then, within-wider, tabulate-same}
 use Rattle.netlist.proofs.Areas.{Sized, store-within, stored-same, stored-other}
 use Rattle.design.specs.Queue.{followed, mapNetNew, applied, didChange, eqRecord, eqCell}
-use Rattle.design.specs.Fields.{renamedFields}
-use Rattle.design.specs.Words.{netlistIn, replacedIn, designIn, appliedIn, renamedRecord, replacedRecord, changesIn, Applies}
+use Rattle.netlist.specs.Fields.{renamedFields, renamedRecord}
+use Rattle.design.specs.Words.{netlistIn, replacedIn, designIn, appliedIn, replacedRecord, changesIn, Applies}
 use Rattle.design.proofs.Lists.{any-more, any-table, map-table}
 use Rattle.design.proofs.Words.{replaced-kept}
 use Rattle.design.proofs.Replacing.{changed-is}
-use Rattle.design.proofs.Visiting.{renamed-plain}
+use Rattle.netlist.proofs.Operands.{renamed-plain}
 
 -- the record of a cell fits into its words
 sized : (bit : ℕ) → bit < 65536 → (c : Cell) → Sized (cellRecord bit c)
@@ -65,21 +65,11 @@ same-fields : (bit : ℕ) (c d : Cell) → eqRecord (cellRecord bit c) (cellReco
 unfolding eqCell eqRecord
 same-fields bit c d = ap₂ eqRecord (at-bit bit c) (at-bit bit d)
 
--- the constant zero is never replaced
-followed-zero : (k : ℕ) (rs : List Net) → followed k rs (netAt 0) ≡ netAt 0
-unfolding followed driver eqNet
-followed-zero zero rs = refl
-followed-zero (suc k) rs = refl
-
-pub replaced-zero : (rs : List Net) → mapNetNew rs (netAt 0) ≡ netAt 0
-unfolding mapNetNew
-replaced-zero rs = followed-zero (length rs) rs
-
 -- one slot
 module _ (n s : ℕ) (ws ws′ : List ℕ) (q : Record) (q-is : q ≡ wordRecord ws s) (old : Record) (old-is : old ≡ cellRecord (q .bit) (cellOf q))
     (r : Record) (r-is : r ≡ renamedFields (mapNetNew (replacedIn n ws)) old) where
   new-record : r ≡ replacedRecord n ws s
-  new-record = r-is ∙ renamed-plain (mapNetNew (replacedIn n ws)) (replaced-zero (replacedIn n ws)) q old old-is ∙ ap (renamedRecord (mapNetNew (replacedIn n ws))) q-is
+  new-record = r-is ∙ renamed-plain (mapNetNew (replacedIn n ws)) q old old-is ∙ ap (renamedRecord (mapNetNew (replacedIn n ws))) q-is
 
   old-bit : r .bit ≡ wordRecord ws s .bit
   unfolding renamedRecord

@@ -1,6 +1,5 @@
 pub mod Lists
 pub mod Words
-pub mod Visiting
 pub mod Replacing
 pub mod Applying
 pub mod Examples

@@ -12,7 +12,7 @@ use Rattle.cell.proofs.Lists.{tabulate-length, tabulate-at}
 use Rattle.netlist.specs.Areas.{wordRecord, recordsIn, Within, replacedAt, visitedAt}
 use Rattle.netlist.specs.Netlist.{cellIn, netlistOf}
 use Rattle.netlist.proofs.Frames.{tabulate-same}
-use Rattle.order.proofs.Bits.{cells-length as records-cells-length, cell-at as records-cell-at}
+use Rattle.netlist.proofs.Cells.{cells-length as records-cells-length, cell-at as records-cell-at}
 use Rattle.design.specs.Words.{netlistIn, replacedIn}
 use Rattle.design.proofs.Lists.{map-at}
 

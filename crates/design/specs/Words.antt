@@ -10,6 +10,7 @@ use Rattle.value.specs.Value.{netAt, eqNet}
 use Rattle.cell.specs.Tabulate.{tabulate}
 use Rattle.cell.specs.declared.Record.{Record}
 use Rattle.cell.specs.Records.{cellOf, cellRecord}
+use Rattle.netlist.specs.Fields.{renamedRecord}
 use Rattle.netlist.specs.Areas.{wordRecord, storeWords, recordsIn, replacedAt}
 use Rattle.netlist.specs.Shape.{visit, visitMut}
 use Rattle.netlist.specs.Netlist.{Netlist, netlistOf, anyOf}
@@ -29,10 +30,7 @@ designIn n ws = record { cells = netlistIn n ws .cells; replaced = replacedIn n 
 unfoldable pub appliedIn : ℕ → List ℕ → Netlist
 appliedIn n ws = record { cells = applied (designIn n ws); bits = netlistIn n ws .bits }
 
--- a record with its operands renamed, and so those of the slots, by the replaced nets
-unfoldable pub renamedRecord : (Net → Net) → Record → Record
-renamedRecord f r = cellRecord (r .bit) (visitMut f (cellOf r))
-
+-- the record of a slot, renamed by the replaced nets
 abbrev pub replacedRecord : ℕ → List ℕ → ℕ → Record
 replacedRecord n ws s = renamedRecord (mapNetNew (replacedIn n ws)) (wordRecord ws s)
 

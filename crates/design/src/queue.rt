@@ -1,7 +1,7 @@
 // Replaced nets, a word a slot. A net that is not replaced stands for itself.
-use crate::visit;
 use cell::Record;
 use netlist::area;
+use netlist::fields;
 use value::Driver;
 use value::Net;
 use value::Slot;
@@ -12,7 +12,7 @@ ghost use Rattle.value.specs.Value.{driver};
 ghost use Rattle.cell.specs.Tabulate.{tabulate};
 ghost use Rattle.netlist.specs.Areas.{storeWords, Within, figuresAt, replacedAt, visitedAt};
 ghost use Rattle.design.specs.Queue.{netIn, drivenTo, mapNetNew, eqRecord, didChange};
-ghost use Rattle.design.specs.Fields.{renamedFields};
+ghost use Rattle.netlist.specs.Fields.{renamedFields};
 ghost use Rattle.design.specs.Words.{netlistIn, replacedIn, designIn, appliedIn, Applies};
 
 // Nothing is replaced yet.
@@ -89,10 +89,10 @@ fn record_eq(x: Record, y: Record) -> bool
 pub fn replaced_record(work: &[u32], n: u32, r: Record) -> Record
     ensures { λ x. ⌜ x ≡ renamedFields (mapNetNew (replacedIn n (now (work .entry)))) r ⌝ }
 {
-    let a = map_net_new(work, n, visit::net_a(r));
-    let b = map_net_new(work, n, visit::net_b(r));
-    let c = map_net_new(work, n, Net(r.c));
-    visit::with_nets(r, a, b, c)
+    let a = map_net_new(work, n, fields::net_a(r));
+    let b = map_net_new(work, n, fields::net_b(r));
+    let c = map_net_new(work, n, fields::net_c(r));
+    fields::with_nets(r, a, b, c)
 }
 
 // Writes such a record into its slot. Not by `replaced_record`: what a call has just stored byte by byte would be read back whole, and that
@@ -101,10 +101,10 @@ fn put_replaced(work: &mut [u32], n: u32, s: Slot, r: Record) -> Record
     ensures { λ x. ⌜ x ≡ renamedFields (mapNetNew (replacedIn n (now (work .entry)))) r ⌝ }
     ensures { λ x. ⌜ now (work .exit) ≡ storeWords (now (work .entry)) (s .0) x ⌝ }
 {
-    let a = map_net_new(work, n, visit::net_a(r));
-    let b = map_net_new(work, n, visit::net_b(r));
-    let c = map_net_new(work, n, Net(r.c));
-    let x = visit::with_nets(r, a, b, c);
+    let a = map_net_new(work, n, fields::net_a(r));
+    let b = map_net_new(work, n, fields::net_b(r));
+    let c = map_net_new(work, n, fields::net_c(r));
+    let x = fields::with_nets(r, a, b, c);
     netlist::put_record(work, s, x);
     x
 }
@@ -113,7 +113,7 @@ fn put_replaced(work: &mut [u32], n: u32, s: Slot, r: Record) -> Record
 fn apply_to(work: &mut [u32], n: u32, s: Slot) -> bool
     ensures { λ r. ⌜ Applies n (s .0) (now (work .entry)) (now (work .exit)) r ⌝ }
 {
-    let old = visit::plain(netlist::record_in(work, s));
+    let old = fields::plain(netlist::record_in(work, s));
     let r = put_replaced(work, n, s, old);
     !record_eq(r, old)
 }

@@ -8,7 +8,7 @@ use Rattle.logic.specs.Levels.{levelOf, eqLevel}
 use Rattle.value.specs.Value.{eqNet, driver}
 use Rattle.cell.specs.declared.Record.{Record}
 use Rattle.cell.specs.Bytes.{word16, word32, bytes16, bytes32}
-use Rattle.kinds.specs.Kinds.{kindOf, useOf}
+use Rattle.kinds.specs.Kinds.{kindOf, useOf, sortOf}
 use Rattle.cell.specs.Operands.{fieldOf, isOperand, isCombEdge, edgeAt}
 use Rattle.cell.specs.Records.{recordOf, recordAt, recordsOf, bytesOf, cellOf}
 use Rattle.cell.specs.Tabulate.{tabulate}
@@ -49,7 +49,7 @@ pub forbidden :
     × Forbidden (output 4294967295 ∷ []) (output 0 ∷ [])
     × Forbidden (input ∷ output 0 ∷ []) (output 0 ∷ [])
     × Forbidden (input ∷ output 0 ∷ []) (input ∷ output 2 ∷ [])
-unfolding levelOf eqLevel eqNet driver word16 word32 bytes16 bytes32 kindOf fieldOf useOf isOperand isCombEdge edgeAt recordAt recordsOf bytesOf cellOf tabulate stepBack reachingIn reaches onLoop firstOf slotBySlot unknownKind reservedField follows outOfSequence bitOutOfSequence undrivenField undrivenOperand kindStages fieldStages bitStages operandStages recordStages loopStages sizeGroup recordGroup loopGroup netlistStages checkStages netlistOf ticketOf those anyOf joined netLevel cellLevel roundOf levelsIn levels givenLevels inputSlots outputSlots outputLevels put checkVerdict levelBytes stimulusStages levelVerdict levelAnswer levelReply
+unfolding levelOf eqLevel eqNet driver word16 word32 bytes16 bytes32 kindOf fieldOf useOf isOperand isCombEdge edgeAt recordAt recordsOf bytesOf cellOf tabulate stepBack reachingIn reaches onLoop firstOf slotBySlot unknownKind reservedField follows outOfSequence bitOutOfSequence undrivenField undrivenOperand kindStages fieldStages bitStages operandStages recordStages loopStages sizeGroup recordGroup loopGroup netlistStages checkStages netlistOf ticketOf those anyOf joined netLevel cellLevel roundOf levelsIn levels givenLevels inputSlots outputSlots outputLevels put checkVerdict levelBytes stimulusStages levelVerdict levelAnswer levelReply sortOf
 forbidden = (
   λ k. let z : _≡_ {A = ℕ} 8 0 = ap number (k .passes) in omega arith,
   λ k. omega (arith, k .shorter),

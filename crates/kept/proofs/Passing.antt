@@ -15,7 +15,7 @@ use Rattle.value.specs.Value.{netAt, driver}
 use Rattle.cell.specs.declared.Record.{Record}
 use Rattle.cell.specs.declared.Cell.{Cell}
 use Rattle.cell.specs.declared.Cell.the-variants.{Input, Output, Buf, Not, And, Or, Xor, Mux, Aig}
-use Rattle.kinds.specs.Kinds.{kindOf}
+use Rattle.kinds.specs.Kinds.{kindOf, sortOf}
 use Rattle.cell.specs.Operands.{fieldOf, isOperand}
 use Rattle.cell.specs.Records.{recordOf, recordIn, cellRecord}
 use Rattle.cell.proofs.Lists.{tabulate-length, tabulate-at}
@@ -41,7 +41,7 @@ unfolding unknownKind
 known-kind bit c = ap not (kind-known bit c)
 
 unused-zero : (bit : ℕ) (c : Cell) → reservedField (cellRecord bit c) ≡ false
-unfolding reservedField cellRecord kindOf
+unfolding reservedField cellRecord kindOf sortOf
 unused-zero bit (Input l) = refl
 unused-zero bit (Output a l) = refl
 unused-zero bit (Buf a) = refl

@@ -9,7 +9,7 @@ use Rattle.value.specs.Value.{netAt}
 use Rattle.cell.specs.declared.Record.{Record}
 use Rattle.cell.specs.declared.Cell.{Cell}
 use Rattle.cell.specs.declared.Cell.the-variants.{Input, Output, Buf, Not, And, Or, Xor, Mux, Aig}
-use Rattle.kinds.specs.Kinds.{kindOf}
+use Rattle.kinds.specs.Kinds.{kindOf, sortOf}
 use Rattle.cell.specs.Records.{cellRecord}
 use Rattle.checking.specs.Checking.{follows, outOfSequence}
 use Rattle.netlist.specs.Shape.{visitMut}
@@ -23,7 +23,7 @@ module _ (f : Net → Net) where
 
   common-mapped : (bit : ℕ) (c : Cell) → kindOf (cellRecord bit c .kind) .«common_a» ≡ true
       → cellRecord bit (visitMut f c) .a ≡ commonMapped (cellRecord bit c .kind) (cellRecord bit c .a)
-  unfolding visitMut cellRecord kindOf commonMapped
+  unfolding visitMut cellRecord kindOf commonMapped sortOf
   common-mapped bit (Input l) e = refl
   common-mapped bit (Output a l) e = absurd (false≢true e)
   common-mapped bit (Buf a) e = absurd (false≢true e)

@@ -1,4 +1,5 @@
--- The kind table (paper, "The ticket"): the one place that says what a kind is. Assumes nothing: these are definitions.
+-- The kind table (paper, "The ticket"): the one place that knows a kind by its number, and what it says of a record. Assumes nothing: these
+-- are definitions.
 use mathlib.Core.Bool.{Bool, true, false, cond}
 use mathlib.Core.List.{List, [], _∷_}
 use Prim.Native.Nat.{ℕ}
@@ -6,7 +7,28 @@ use lib.Dec.{eqb}
 use lib.ListN.{getD}
 use Rattle.kinds.specs.declared.Use.{Use}
 use Rattle.kinds.specs.declared.Use.the-variants.{Unused, Label, Operand}
+use Rattle.kinds.specs.declared.Sort.{Sort}
+use Rattle.kinds.specs.declared.Sort.the-variants.{Unknown, Input, Output, Buf, Not, And, Or, Xor, Mux, Aig}
 use Rattle.kinds.specs.declared.Kind.{Kind}
+
+-- the sorts of cells by kind number, from 0 on, and back
+abbrev pub sorts : List Sort
+sorts = Unknown ∷ Input ∷ Output ∷ Buf ∷ Not ∷ And ∷ Or ∷ Xor ∷ Mux ∷ Aig ∷ []
+
+unfoldable pub sortOf : ℕ → Sort
+sortOf k = getD sorts k Unknown
+
+abbrev pub numberOf : Sort → ℕ
+numberOf Unknown = 0
+numberOf Input = 1
+numberOf Output = 2
+numberOf Buf = 3
+numberOf Not = 4
+numberOf And = 5
+numberOf Or = 6
+numberOf Xor = 7
+numberOf Mux = 8
+numberOf Aig = 9
 
 -- a row of the table: what fields a, b and c hold, the largest flags byte (the flags in use are the lowest bits, so another is set
 -- exactly if the byte is larger), whether a cell has one bit only, whether field a is the same in all bits of a cell, and what a record
@@ -27,22 +49,20 @@ unknownRow = record {
   gates = 0;
 }
 
-abbrev pub kindTable : List Kind
-kindTable =
-    unknownRow
-    ∷ rowOf Label Unused Unused 0 false true 0  -- 1 input
-    ∷ rowOf Operand Label Unused 0 true false 0  -- 2 output
-    ∷ rowOf Operand Unused Unused 0 false false 1  -- 3 buf
-    ∷ rowOf Operand Unused Unused 0 false false 1  -- 4 not
-    ∷ rowOf Operand Operand Unused 0 false false 1  -- 5 and
-    ∷ rowOf Operand Operand Unused 0 false false 1  -- 6 or
-    ∷ rowOf Operand Operand Unused 0 false false 1  -- 7 xor
-    ∷ rowOf Operand Operand Operand 0 false true 1  -- 8 mux
-    ∷ rowOf Operand Operand Unused 3 true false 1  -- 9 and-inverter
-    ∷ []
+abbrev pub kindTable : Sort → Kind
+kindTable Unknown = unknownRow
+kindTable Input = rowOf Label Unused Unused 0 false true 0
+kindTable Output = rowOf Operand Label Unused 0 true false 0
+kindTable Buf = rowOf Operand Unused Unused 0 false false 1
+kindTable Not = rowOf Operand Unused Unused 0 false false 1
+kindTable And = rowOf Operand Operand Unused 0 false false 1
+kindTable Or = rowOf Operand Operand Unused 0 false false 1
+kindTable Xor = rowOf Operand Operand Unused 0 false false 1
+kindTable Mux = rowOf Operand Operand Operand 0 false true 1
+kindTable Aig = rowOf Operand Operand Unused 3 true false 1
 
 unfoldable pub kindOf : ℕ → Kind
-kindOf k = getD kindTable k unknownRow
+kindOf k = kindTable (sortOf k)
 
 -- the use of a field by its number: 1 is a, 2 is b, 3 is c
 unfoldable pub useOf : Kind → ℕ → Use
@@ -52,3 +72,21 @@ abbrev pub isOperandUse : Use → Bool
 isOperandUse Unused = false
 isOperandUse Label = false
 isOperandUse Operand = true
+
+abbrev pub isUsed : Use → Bool
+isUsed Unused = false
+isUsed Label = true
+isUsed Operand = true
+
+-- operands a and b may be exchanged (merge.rs, `commutative_bitwise_binary`, and the arm of `Cell::Aig`, whose flags go with them)
+abbrev pub commutes : Sort → Bool
+commutes Unknown = false
+commutes Input = false
+commutes Output = false
+commutes Buf = false
+commutes Not = false
+commutes And = true
+commutes Or = true
+commutes Xor = true
+commutes Mux = false
+commutes Aig = true

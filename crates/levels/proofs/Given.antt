@@ -25,7 +25,8 @@ use Rattle.order.specs.Orders.{topoSort}
 use Rattle.order.specs.Code.{Sorts}
 use Rattle.levels.specs.Evaluate.{givenLevels}
 use Rattle.levels.specs.Fold.{cellsIn, levelsAt, inputAt, placedLevel, foldIn, slotLevel, bitLevels}
-use Rattle.levels.proofs.Slots.{of-kind, of-another, cells-length, cells-at, input-kind}
+use Rattle.netlist.proofs.Cells.{cells-length, cell-at, input-kind}
+use Rattle.levels.proofs.Slots.{of-kind, of-another}
 use Rattle.levels.proofs.Levels.{levels-length, level-read, put-within}
 
 -- a byte of the stimulus; past its end the level is undefined
@@ -99,7 +100,7 @@ module _ (n : ℕ) (bs ws₀ ws : List ℕ) (s k : ℕ) (g : Placing n bs ws₀ 
     is-input : inputAt ws s ≡ isInput (cellIn (cellsIn n ws₀) s)
     is-input =
         ap (λ (x : Record). eqb (x .kind) 1) (record-kept figuresAt mixesAt ws₀ ws (g .frame) s (inl (omega arith)))
-        ∙ sym (ap isInput (cells-at n ws₀ s l) ∙ input-kind (wordRecord ws₀ s))
+        ∙ sym (ap isInput (cell-at n ws₀ s l) ∙ input-kind (wordRecord ws₀ s))
 
     is-given : placedLevel ws s bs k ≡ getD (givenLevels (cellsIn n ws₀) bs) s Undef
     is-given =

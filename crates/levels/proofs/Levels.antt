@@ -19,7 +19,7 @@ use Rattle.netlist.specs.Areas.{wordRecord, wordsIn, Within, figuresAt, mixesAt
 use Rattle.netlist.proofs.Frames.{within-none, within-then, within-set, records-kept}
 use Rattle.levels.specs.Evaluate.{netLevel, cellLevel}
 use Rattle.levels.specs.Fold.{cellsIn, levelsAt, foldIn, slotLevel}
-use Rattle.levels.proofs.Slots.{cells-at}
+use Rattle.netlist.proofs.Cells.{cell-at}
 
 pub levels-length : (n : ℕ) (ws : List ℕ) → length (levelsAt n ws) ≡ n
 unfolding levelsAt
@@ -65,7 +65,7 @@ module _ (n : ℕ) (ws : List ℕ) (s : ℕ) where
   unfolding slotLevel
   updated l few long own e c f t g ws′ h =
       ap (levelsAt n) h ∙ level-set n ws s t l (omega arith)
-      ∙ ap (set (levelsAt n ws) s) (g ∙ ap₂ (cellLevel (netLevel (levelsAt n ws))) e (f ∙ sym (cells-at n ws s l)))
+      ∙ ap (set (levelsAt n ws) s) (g ∙ ap₂ (cellLevel (netLevel (levelsAt n ws))) e (f ∙ sym (cell-at n ws s l)))
 
   pub updated-within : s < n → n ≤ 512 → (v : ℕ) (ws′ : List ℕ) → ws′ ≡ set ws (figuresAt + s) v → Within figuresAt mixesAt ws ws′
   updated-within l few v ws′ h = subst (Within figuresAt mixesAt ws) (sym h) (put-within ws s v (omega arith))

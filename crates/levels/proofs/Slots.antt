@@ -18,6 +18,7 @@ use Rattle.cell.proofs.Lists.{tabulate-length, tabulate-at}
 use Rattle.netlist.specs.Shape.{isInput, isOutput}
 use Rattle.netlist.specs.Netlist.{cellIn, slots, those}
 use Rattle.netlist.specs.Areas.{wordRecord, recordsIn}
+use Rattle.netlist.proofs.Cells.{cells-length, cell-at, input-kind, output-kind}
 use Rattle.levels.specs.Evaluate.{inputSlots, outputSlots}
 use Rattle.levels.specs.Fold.{cellsIn, ofKind}
 
@@ -65,36 +66,6 @@ slots-same p q (suc n) h =
     ∙ ap₂ (λ (l : List ℕ) (b : Bool). l ++ cond b (n ∷ []) []) (slots-same p q n (λ s l. h s (omega arith))) (h n (omega arith))
     ∙ sym (those-snoc q (slots n) n)
 
--- the sort of a record's cell is seen from its kind
-module _ (p : Cell → Bool) where
-  sort-not : (b : Bool) (x y : Cell) → p x ≡ false → p y ≡ false → p (cond b x y) ≡ false
-  sort-not true x y e f = e
-  sort-not false x y e f = f
-
-  sort-test : (b : Bool) (x y : Cell) → p x ≡ true → p y ≡ false → p (cond b x y) ≡ b
-  sort-test true x y e f = e
-  sort-test false x y e f = f
-
-pub input-kind : (r : Record) → isInput (cellOf r) ≡ eqb (r .kind) 1
-unfolding cellOf
-input-kind r =
-    sort-test isInput (eqb (r .kind) 1) _ _ refl
-    (sort-not isInput (eqb (r .kind) 2) _ _ refl (sort-not isInput (eqb (r .kind) 3) _ _ refl (sort-not isInput (eqb (r .kind) 4) _ _ refl
-    (sort-not isInput (eqb (r .kind) 5) _ _ refl (sort-not isInput (eqb (r .kind) 6) _ _ refl (sort-not isInput (eqb (r .kind) 7) _ _ refl
-    (sort-not isInput (eqb (r .kind) 8) _ _ refl refl)))))))
-
-pub output-kind : (r : Record) → isOutput (cellOf r) ≡ eqb (r .kind) 2
-unfolding cellOf
-output-kind r =
-    go (eqb (r .kind) 1) refl _
-    (sort-test isOutput (eqb (r .kind) 2) _ _ refl
-    (sort-not isOutput (eqb (r .kind) 3) _ _ refl (sort-not isOutput (eqb (r .kind) 4) _ _ refl (sort-not isOutput (eqb (r .kind) 5) _ _ refl
-    (sort-not isOutput (eqb (r .kind) 6) _ _ refl (sort-not isOutput (eqb (r .kind) 7) _ _ refl (sort-not isOutput (eqb (r .kind) 8) _ _ refl refl)))))))
-  where
-    go : (b : Bool) → eqb (r .kind) 1 ≡ b → (y : Cell) → isOutput y ≡ eqb (r .kind) 2 → isOutput (cond b (Input (r .a)) y) ≡ eqb (r .kind) 2
-    go true e y f = sym (ne-eqb (r .kind) 2 (λ q. absurd (omega (arith, eqb-true (r .kind) 1 e))))
-    go false e y f = f
-
 -- a slot whose record is of a kind, or of another
 module _ (ws : List ℕ) (s : ℕ) (r : Record) (r-is : r ≡ wordRecord ws s) (kind : ℕ) where
   module _ (e : r .kind ≡ kind) where
@@ -111,22 +82,8 @@ module _ (ws : List ℕ) (s : ℕ) (r : Record) (r-is : r ≡ wordRecord ws s) (
     pub none-more : _≡_ {A = ℕ} 0 (cond (eqb (wordRecord ws s .kind) kind) 1 0)
     none-more = rw of-another
 
--- a cell, an input and an output of the records in the work slice
+-- the slots of a kind, inputs and outputs among the records in the work slice
 module _ (n : ℕ) (ws : List ℕ) where
-  pub cells-length : length (cellsIn n ws) ≡ n
-  unfolding recordsIn
-  cells-length = length-map (recordsIn n ws) cellOf ∙ tabulate-length (wordRecord ws) n
-
-  pub cells-at : (s : ℕ) → s < n → cellIn (cellsIn n ws) s ≡ cellOf (wordRecord ws s)
-  unfolding recordsIn
-  cells-at s l = map-at (recordsIn n ws) s (rw (tabulate-length (wordRecord ws) n) l) ∙ ap cellOf (tabulate-at (wordRecord ws) n (recordOf 0 0 0 0 0 0) s l)
-    where
-      map-at : (rs : List Record) (s : ℕ) → s < length rs → getD (map cellOf rs) s (Input 0) ≡ cellOf (recordIn rs s)
-      map-at [] s h = absurd (omega arith)
-      map-at (r ∷ rs) zero h = refl
-      map-at (r ∷ rs) (suc s) h = map-at rs s (omega arith)
-
-  -- the slots of a kind
   pub kind-slots : (kind : ℕ) → ofKind kind (recordsIn n ws) ≡ those (λ s. eqb (wordRecord ws s .kind) kind) (slots n)
   unfolding ofKind recordsIn
   kind-slots kind =
@@ -136,12 +93,12 @@ module _ (n : ℕ) (ws : List ℕ) where
   pub input-slots : inputSlots (cellsIn n ws) ≡ ofKind 1 (recordsIn n ws)
   unfolding inputSlots
   input-slots =
-      rw cells-length (slots-same _ _ n (λ s l. ap isInput (cells-at s l) ∙ input-kind (wordRecord ws s))) ∙ sym (kind-slots 1)
+      rw (cells-length n ws) (slots-same _ _ n (λ s l. ap isInput (cell-at n ws s l) ∙ input-kind (wordRecord ws s))) ∙ sym (kind-slots 1)
 
   pub output-slots : outputSlots (cellsIn n ws) ≡ ofKind 2 (recordsIn n ws)
   unfolding outputSlots
   output-slots =
-      rw cells-length (slots-same _ _ n (λ s l. ap isOutput (cells-at s l) ∙ output-kind (wordRecord ws s))) ∙ sym (kind-slots 2)
+      rw (cells-length n ws) (slots-same _ _ n (λ s l. ap isOutput (cell-at n ws s l) ∙ output-kind (wordRecord ws s))) ∙ sym (kind-slots 2)
 
 -- the loop that counts
 pub record Counting (ws : List ℕ) (n kind s count : ℕ) : Type 0 where

@@ -7,6 +7,8 @@ use lib.ListN.{length, getD, set}
 use Rattle.logic.specs.declared.Trit.{Trit}
 use Rattle.logic.specs.declared.Trit.the-variants.{Undef}
 use Rattle.logic.specs.Levels.{levelOf}
+use Rattle.kinds.specs.declared.Sort.the-variants as sort
+use Rattle.kinds.specs.Kinds.{numberOf}
 use Rattle.cell.specs.declared.Record.{Record}
 use Rattle.cell.specs.declared.Cell.{Cell}
 use Rattle.cell.specs.Records.{recordIn, cellOf}
@@ -30,7 +32,7 @@ levelsAt n ws = tabulate (λ s. levelOf (getD ws (figuresAt + s) 0)) n
 
 -- whether a slot's record is an input's
 abbrev pub inputAt : List ℕ → ℕ → Bool
-inputAt ws s = eqb (wordRecord ws s .kind) 1
+inputAt ws s = eqb (wordRecord ws s .kind) (numberOf sort.Input)
 
 -- a slot's level before the fold, if k bytes of the stimulus are taken
 abbrev pub placedLevel : List ℕ → ℕ → List ℕ → ℕ → Trit

@@ -140,7 +140,7 @@ fn place_at(work: &mut [u32], s: Slot, stimulus: &[u8], k: u32) -> u32
     ensures { λ _. ⌜ now (work .exit) ≡ set (now (work .entry)) (figuresAt + s .0) (byteOf (placedLevel (now (work .entry)) (s .0) (now (stimulus .entry)) k)) ⌝ }
 {
     let kind = netlist::record_in(work, s).kind;
-    if kind == 1 {
+    if kind == kinds::INPUT {
         put_level(work, s, stimulus_level(stimulus, k));
         return 1;
     }

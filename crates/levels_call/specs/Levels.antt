@@ -7,6 +7,8 @@ use lib.Dec.{eqb}
 use lib.ListN.{getD, set}
 use Rattle.logic.specs.declared.Trit.the-variants.{Undef}
 use Rattle.logic.specs.Levels.{byteOf}
+use Rattle.kinds.specs.declared.Sort.the-variants as sort
+use Rattle.kinds.specs.Kinds.{numberOf}
 use Rattle.netlist.specs.Areas.{wordRecord, recordsIn}
 use Rattle.levels.specs.Fold.{cellsIn, ofKind, levelsAt, bitOutputs}
 use Rattle.checking.specs.Refusals.{Stage}
@@ -16,7 +18,7 @@ use Rattle.delivery.specs.Delivery.{Writes, Delivers}
 
 -- whether a slot's record is an output's
 abbrev pub outputAt : List ℕ → ℕ → Bool
-outputAt ws s = eqb (wordRecord ws s .kind) 2
+outputAt ws s = eqb (wordRecord ws s .kind) (numberOf sort.Output)
 
 -- the byte of the level that stands in the work slice for a slot
 abbrev pub byteAt : ℕ → List ℕ → ℕ → ℕ
@@ -28,7 +30,7 @@ putLevel n ws s reply k = cond (outputAt ws s) (set reply k (byteAt n ws s)) rep
 
 -- the bytes of the outputs' levels that stand in the work slice
 unfoldable pub writtenLevels : ℕ → List ℕ → List ℕ
-writtenLevels n ws = map (byteAt n ws) (ofKind 2 (recordsIn n ws))
+writtenLevels n ws = map (byteAt n ws) (ofKind (numberOf sort.Output) (recordsIn n ws))
 
 -- the bytes of the outputs' levels for a stimulus, by the records in the work slice
 abbrev pub bitBytes : ℕ → List ℕ → List ℕ → List ℕ

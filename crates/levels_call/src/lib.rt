@@ -6,6 +6,8 @@ use value::Slot;
 ghost use mathlib.Core.Path.{_≡_};
 ghost use mathlib.Core.Bool.{cond};
 ghost use Prim.Native.Nat.{_≤_};
+ghost use Rattle.kinds.specs.declared.Sort.the-variants as sort;
+ghost use Rattle.kinds.specs.Kinds.{numberOf};
 ghost use lib.ListN.{length};
 ghost use Rattle.netlist.specs.Areas.{recordsIn};
 ghost use Rattle.levels.specs.Fold.{cellsIn, ofKind};
@@ -20,7 +22,7 @@ fn stimulus_verdict(work: &[u32], n: u32, stimulus: &[u8]) -> Verdict
     requires { ⌜ n ≤ 512 ⌝ }
     ensures { λ v. ⌜ v ≡ firstOf (stimulusStages (cellsIn n (now (work .entry))) (now (stimulus .entry))) ⌝ }
 {
-    let count = levels::count_kind(work, n, 1);
+    let count = levels::count_kind(work, n, kinds::INPUT);
     if stimulus.len() != (count as usize) {
         return Verdict::Refused(Refusal::LevelCount);
     }
@@ -41,7 +43,7 @@ fn write_at(work: &[u32], n: u32, s: Slot, reply: &mut [u8], k: u32) -> u32
     ensures { λ _. ⌜ now (reply .exit) ≡ putLevel n (now (work .entry)) (s .0) (now (reply .entry)) k ⌝ }
 {
     let kind = netlist::record_in(work, s).kind;
-    if kind == 2 {
+    if kind == kinds::OUTPUT {
         let t = levels::level_at(work, n, s);
         cell::put_byte(reply, k as usize, t.to_byte() as u8);
         return 1;
@@ -52,7 +54,7 @@ fn write_at(work: &[u32], n: u32, s: Slot, reply: &mut [u8], k: u32) -> u32
 // Writes the levels of the outputs, in slot order.
 fn write_levels(work: &[u32], n: u32, reply: &mut [u8])
     requires { ⌜ n ≤ 512 ⌝ }
-    requires { ⌜ length (ofKind 2 (recordsIn n (now work))) ≤ length (now reply) ⌝ }
+    requires { ⌜ length (ofKind (numberOf sort.Output) (recordsIn n (now work))) ≤ length (now reply) ⌝ }
     ensures { λ _. ⌜ now (reply .exit) ≡ put (now (reply .entry)) (writtenLevels n (now (work .entry))) ⌝ }
 {
     let mut s: u32 = 0;
@@ -69,7 +71,7 @@ fn written(work: &mut [u32], n: u32, stimulus: &[u8], reply: &mut [u8]) -> Writt
     requires { ⌜ n ≤ 512 ⌝ }
     ensures { λ r. ⌜ DeliversLevels n (now (stimulus .entry)) (now (work .entry)) (now (work .exit)) (now (reply .entry)) (now (reply .exit)) r ⌝ }
 {
-    let count = levels::count_kind(work, n, 2);
+    let count = levels::count_kind(work, n, kinds::OUTPUT);
     if reply.len() < (count as usize) {
         return Written::Refused(Refusal::ShortReply);
     }

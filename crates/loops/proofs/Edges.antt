@@ -14,7 +14,7 @@ use Rattle.kinds.specs.declared.Use.{Use}
 use Rattle.kinds.specs.declared.Use.the-variants.{Unused}
 use Rattle.cell.specs.declared.Edge.{Edge}
 use Rattle.cell.specs.declared.Edge.the-variants.{To, Nowhere}
-use Rattle.kinds.specs.Kinds.{kindOf, useOf}
+use Rattle.kinds.specs.Kinds.{kindOf, useOf, sortOf}
 use Rattle.cell.specs.Operands.{isOperand, isCombEdge, edgeAt}
 use Rattle.cell.specs.Records.{recordOf, recordIn}
 use Rattle.cell.proofs.Lists.{record-past}
@@ -44,7 +44,7 @@ either-unused true u e = refl
 either-unused false u e = e
 
 pub no-edge : (f : ℕ) → edgeAt (recordOf 0 0 0 0 0 0) f ≡ Nowhere
-unfolding useOf kindOf
+unfolding useOf kindOf sortOf
 no-edge f = unused-edge (recordOf 0 0 0 0 0 0) f (either-unused (eqb f 1) _ (either-unused (eqb f 2) _ (either-unused (eqb f 3) _ refl)))
 
 -- a slot with an edge has a record

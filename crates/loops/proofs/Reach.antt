@@ -14,7 +14,7 @@ use Rattle.value.specs.Value.{slotAt}
 use Rattle.cell.specs.declared.Record.{Record}
 use Rattle.cell.specs.declared.Edge.{Edge}
 use Rattle.cell.specs.declared.Edge.the-variants.{To, Nowhere}
-use Rattle.kinds.specs.Kinds.{kindOf, useOf}
+use Rattle.kinds.specs.Kinds.{kindOf, useOf, sortOf}
 use Rattle.cell.specs.Operands.{isOperand, isCombEdge, edgeAt}
 use Rattle.cell.specs.Records.{recordOf, recordIn}
 use Rattle.loops.specs.Reach.{Reaches, edge, path, OnLoop, hits, leads, stepBack, reachingIn, reaches, onLoop}
@@ -78,7 +78,7 @@ module _ (rs : List Record) (y : ℕ) where
   marked-zero s = List·getD-map (λ r. false) rs s (recordOf 0 0 0 0 0 0)
 
   marked-suc : (k s : ℕ) → marked (suc k) s ≡ leads (target k) (recordIn rs s)
-  unfolding reachingIn stepBack edgeAt isCombEdge isOperand kindOf useOf
+  unfolding reachingIn stepBack edgeAt isCombEdge isOperand kindOf useOf sortOf
   marked-suc k s = List·getD-map (leads (target k)) rs s (recordOf 0 0 0 0 0 0)
 
   -- a mark is there for a reason

@@ -22,10 +22,9 @@ use Rattle.netlist.proofs.Frames.{within-none, within-then, within-wider, tabul
 use Rattle.netlist.proofs.Areas.{store-within, stored-other, stored-same}
 use Rattle.netlist.specs.Shape.{visitMut}
 use Rattle.design.specs.Queue.{mapNetNew}
-use Rattle.design.specs.Fields.{renamedFields}
+use Rattle.netlist.specs.Fields.{renamedFields}
 use Rattle.design.specs.Words.{netlistIn, replacedIn}
-use Rattle.design.proofs.Visiting.{renamed-cell}
-use Rattle.design.proofs.Applying.{replaced-zero}
+use Rattle.netlist.proofs.Operands.{renamed-cell}
 use Rattle.design.proofs.Words.{bits-length, bit-at}
 use Rattle.numberer.proofs.Records.{cell-sized}
 use Rattle.merge.specs.Merge.{keyOf}
@@ -89,7 +88,7 @@ key-put n ws ws′ s q own new key e ek en eo eq =
     let f : Net → Net = mapNetNew (replacedIn n ws) in
     e
     ∙ ap (storeWords ws (keysAt + s)) (ek
-    ∙ ap (keyFields s) (en ∙ ap (renamedFields f) eo ∙ renamed-cell f (replaced-zero (replacedIn n ws)) (q .bit) (cellOf q))
+    ∙ ap (keyFields s) (en ∙ ap (renamedFields f) eo ∙ renamed-cell f (q .bit) (cellOf q))
     ∙ key-fields s (q .bit) (visitMut f (cellOf q))
     ∙ ap (λ (r : Record). cellRecord s (keyOf (visitMut f (cellOf r)))) eq)
 

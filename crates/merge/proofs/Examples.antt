@@ -3,6 +3,7 @@ use mathlib.Core.Path.{_≡_, refl}
 use mathlib.Core.Bool.{true, false}
 use mathlib.Core.List.{List, [], _∷_}
 use Rattle.value.specs.Value.{eqNet, leNet, driver}
+use Rattle.kinds.specs.Kinds.{sortOf}
 use Rattle.cell.specs.declared.Record.{Record}
 use Rattle.cell.specs.Records.{recordOf, cellOf, cellRecord}
 use Rattle.cell.specs.Tabulate.{tabulate}
@@ -40,5 +41,5 @@ pub as-expected : (merge (netlistOf T8) .1 ≡ false)
     ∷ recordOf 4 0 1 3 0 0
     ∷ recordOf 2 0 0 4 9 0
     ∷ recordOf 2 0 0 6 11 0 ∷ [])
-unfolding eqNet leNet driver cellOf cellRecord tabulate visit visitMut hasEffects netlistOf encode those anyOf joined sources outputOf iterCells cellDeps Netlist.run each down walk walkFrom iterCellsTopo unchanged followed mapNetNew applied didChange eqRecord eqCell seek keep keptSlots countKept netMap compact keyOf findOrInsertAll mergeCell mergeCells merging merge
+unfolding eqNet leNet driver cellOf cellRecord tabulate visit visitMut hasEffects netlistOf encode those anyOf joined sources outputOf iterCells cellDeps Netlist.run each down walk walkFrom iterCellsTopo unchanged followed mapNetNew applied didChange eqRecord eqCell seek keep keptSlots countKept netMap compact keyOf findOrInsertAll mergeCell mergeCells merging merge sortOf
 as-expected = (refl, refl, refl, refl)

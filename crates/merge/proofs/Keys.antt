@@ -6,6 +6,8 @@ use lib.Dec.{leb}
 use Rattle.value.specs.declared.Net.{Net}
 use Rattle.value.specs.declared.ControlNet.the-variants.{Pos, Neg}
 use Rattle.value.specs.Value.{leNet, leControl}
+use Rattle.kinds.specs.declared.Sort.the-variants as sort
+use Rattle.kinds.specs.Kinds.{sortOf, numberOf}
 use Rattle.cell.specs.declared.Cell.{Cell}
 use Rattle.cell.specs.declared.Cell.the-variants.{Input, Output, Buf, Not, And, Or, Xor, Mux, Aig}
 use Rattle.cell.specs.Records.{recordOf, cellRecord}
@@ -20,16 +22,16 @@ module _ (bit : ℕ) where
   either-way f kind flags h x y false = sym (h y x)
 
   pub key-fields : (b : ℕ) (c : Cell) → keyFields bit (cellRecord b c) ≡ cellRecord bit (keyOf c)
-  unfolding keyFields turned keyOf cellRecord leNet leControl
+  unfolding keyFields turned keyOf cellRecord leNet leControl sortOf
   key-fields b (Input l) = refl
   key-fields b (Output x l) = refl
   key-fields b (Buf x) = refl
   key-fields b (Not x) = refl
-  key-fields b (And x y) = either-way And 5 0 (λ v w. refl) x y (leb (x .0) (y .0))
-  key-fields b (Or x y) = either-way Or 6 0 (λ v w. refl) x y (leb (x .0) (y .0))
-  key-fields b (Xor x y) = either-way Xor 7 0 (λ v w. refl) x y (leb (x .0) (y .0))
+  key-fields b (And x y) = either-way And (numberOf sort.And) 0 (λ v w. refl) x y (leb (x .0) (y .0))
+  key-fields b (Or x y) = either-way Or (numberOf sort.Or) 0 (λ v w. refl) x y (leb (x .0) (y .0))
+  key-fields b (Xor x y) = either-way Xor (numberOf sort.Xor) 0 (λ v w. refl) x y (leb (x .0) (y .0))
   key-fields b (Mux x y z) = refl
-  key-fields b (Aig (Pos x) (Pos y)) = either-way (λ v w. Aig (Pos v) (Pos w)) 9 0 (λ v w. refl) x y (leb (x .0) (y .0))
+  key-fields b (Aig (Pos x) (Pos y)) = either-way (λ v w. Aig (Pos v) (Pos w)) (numberOf sort.Aig) 0 (λ v w. refl) x y (leb (x .0) (y .0))
   key-fields b (Aig (Pos x) (Neg y)) = refl
   key-fields b (Aig (Neg x) (Pos y)) = refl
-  key-fields b (Aig (Neg x) (Neg y)) = either-way (λ v w. Aig (Neg v) (Neg w)) 9 3 (λ v w. refl) x y (leb (x .0) (y .0))
+  key-fields b (Aig (Neg x) (Neg y)) = either-way (λ v w. Aig (Neg v) (Neg w)) (numberOf sort.Aig) 3 (λ v w. refl) x y (leb (x .0) (y .0))

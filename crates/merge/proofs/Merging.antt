@@ -20,7 +20,7 @@ use Rattle.order.specs.Orders.{iterCellsTopo}
 use Rattle.design.specs.Queue.{netIn, unchanged, didChange}
 use Rattle.design.specs.Words.{netlistIn, replacedIn, designIn, appliedIn}
 use Rattle.design.proofs.Words.{cells-length, bits-length, cell-at}
-use Rattle.order.proofs.Bits.{those-append}
+use Rattle.netlist.proofs.Lists.{those-append}
 use Rattle.numberer.specs.Words.{numbererIn}
 use Rattle.numberer.proofs.Inserting.{entered-none, mixed-none}
 use Rattle.merge.specs.Merge.{Merging, mergeCell, mergeCells, merging, merge}

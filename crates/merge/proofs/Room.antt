@@ -16,6 +16,7 @@ use Rattle.cell.specs.Tabulate.{tabulate}
 use Rattle.cell.proofs.Lists.{tabulate-length}
 use Rattle.netlist.specs.Shape.{visit, isInput, isOutput, hasEffects}
 use Rattle.netlist.specs.Netlist.{Netlist, cellIn, slots, those, anyOf, joined, sources, startOf, run, outputOf, iterCells, cellDeps}
+use Rattle.netlist.proofs.Lists.{those-length}
 use Rattle.order.specs.Walk.{Walk, isVisited, mark, each, down, walk, walkFrom, fresh}
 use Rattle.order.specs.Orders.{emit, iterCellsTopo}
 use Rattle.merge.specs.Words.{Sequenced, widthOf, loadOf, sum}
@@ -313,15 +314,6 @@ module _ (d : Netlist) (seq : Sequenced (d .bits)) (fits : length (d .cells) ≡
       go (Xor y z) h = omega arith
       go (Mux y z v) h = omega arith
       go (Aig p q) h = omega arith
-
-  those-length : (t : ℕ → Bool) (xs : List ℕ) → length (those t xs) ≤ length xs
-  unfolding those
-  those-length t [] = omega arith
-  those-length t (x ∷ xs) = go (t x) (those-length t xs)
-    where
-      go : (b : Bool) → length (those t xs) ≤ length xs → length (cond b (x ∷ those t xs) (those t xs)) ≤ suc (length xs)
-      go true h = omega arith
-      go false h = omega arith
 
   pub order-short : length (iterCellsTopo d) ≤ length (d .bits) + length (d .bits)
   unfolding iterCellsTopo walkFrom iterCells sum

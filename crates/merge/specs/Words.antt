@@ -7,6 +7,7 @@ use mathlib.Core.Logic.{_⊎_}
 use Prim.Native.Nat.{ℕ, suc, _+_, _-_, _≤_, _<_}
 use lib.Dec.{eqb, leb}
 use lib.ListN.{length, getD, drop}
+use Rattle.kinds.specs.Kinds.{sortOf, commutes}
 use Rattle.cell.specs.declared.Record.{Record}
 use Rattle.cell.specs.declared.Cell.{Cell}
 use Rattle.cell.specs.Records.{recordOf, cellOf, cellRecord}
@@ -25,8 +26,7 @@ pub record Sequenced (bits : List ℕ) : Type 0 where
 
 -- the key of a cell by the fields of its record: whether two operands are exchanged, which flags are then, and the key's record
 unfoldable pub turned : Record → Bool
-turned r =
-    ((leb 5 (r .kind) && leb (r .kind) 7) || eqb (r .kind) 9) && (eqb (r .flags) 1 || (not (eqb (r .flags) 2) && not (leb (r .a) (r .b))))
+turned r = commutes (sortOf (r .kind)) && (eqb (r .flags) 1 || (not (eqb (r .flags) 2) && not (leb (r .a) (r .b))))
 
 unfoldable pub keyFields : ℕ → Record → Record
 keyFields bit r =

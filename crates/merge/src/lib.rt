@@ -1,8 +1,8 @@
 // Merging of equal cells, after generic/src/merge.rs. The keys that were looked for and not found are the numberer's.
 use cell::Record;
 use design::Found;
-use design::visit;
 use netlist::area;
+use netlist::fields;
 use value::Slot;
 ghost use mathlib.Core.Path.{_≡_};
 ghost use Prim.Native.Nat.{_+_, _-_, _≤_, _<_};
@@ -16,9 +16,11 @@ ghost use Rattle.merge.specs.Words.{turned, keyFields, keyIn, Ready, Key
 fn is_turned(r: Record) -> bool
     ensures { λ t. ⌜ t ≡ turned r ⌝ }
 {
-    let commutes = logic::either(logic::both(5 <= r.kind, r.kind <= 7), r.kind == 9);
     let descends = logic::both(r.flags != 2, !(r.a <= r.b));
-    logic::both(commutes, logic::either(r.flags == 1, descends))
+    logic::both(
+        kinds::operands_commute(r.kind),
+        logic::either(r.flags == 1, descends),
+    )
 }
 
 // The record of the key of a cell's record, with a bit of its own.
@@ -42,7 +44,7 @@ fn put_key(work: &mut [u32], n: u32, s: Slot)
     requires { ⌜ s .0 < n ⌝ }
     ensures { λ _. ⌜ now (work .exit) ≡ storeWords (now (work .entry)) (keysAt + s .0) (cellRecord (s .0) (keyIn n (now (work .entry)) (s .0))) ⌝ }
 {
-    let own = visit::plain(netlist::record_in(work, s));
+    let own = fields::plain(netlist::record_in(work, s));
     let key = key_record(s.0 as u16, design::queue::replaced_record(work, n, own));
     netlist::put_record(work, Slot(area::KEYS + s.0), key);
 }

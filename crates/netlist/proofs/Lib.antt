@@ -1,2 +1,5 @@
 pub mod Frames
 pub mod Areas
+pub mod Operands
+pub mod Cells
+pub mod Lists

@@ -1,3 +1,4 @@
 pub mod Shape
 pub mod Netlist
 pub mod Areas
+pub mod Fields

@@ -10,6 +10,7 @@ ghost use Rattle.netlist.specs.Shape.{hasEffects};
 ghost use Rattle.netlist.specs.Areas.{wordRecord, storeWords, recordsIn, Within, visitedAt};
 
 pub mod area;
+pub mod fields;
 
 // `Cell::has_effects`: inputs and outputs, of the kinds that a ticket has.
 pub fn has_effects(c: Cell) -> bool

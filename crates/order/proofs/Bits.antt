@@ -25,6 +25,8 @@ use Rattle.cell.specs.declared.Cell.the-variants.{Input, Output, Buf, Not, And,
 use Rattle.cell.specs.Tabulate.{tabulate}
 use Rattle.cell.specs.Records.{recordOf, cellOf}
 use Rattle.cell.proofs.Lists.{tabulate-length, tabulate-at}
+use Rattle.netlist.proofs.Lists.{those-append}
+use Rattle.netlist.proofs.Cells.{cells-length, cell-at, cell-past, input-kind, output-kind}
 use Rattle.netlist.specs.Shape.{visit, isInput, isOutput}
 use Rattle.netlist.specs.Netlist.{cellIn, slots, those, joined, drivenBy, sources}
 use Rattle.netlist.specs.Areas.{wordRecord, recordsIn, wordsIn, orderAt, visitedAt}
@@ -37,50 +39,7 @@ use Rattle.order.proofs.Walks.{walk-visited}
 use Rattle.order.proofs.Words.{mark-past, new-below}
 use Rattle.order.proofs.Walking.{visited-of, walks-none, walks-then, walks-ready, walks-records, marked-records, pushed-next, pushed, walks-total, walks-grown, walks-there, none-unvisited, cleared-ready, cleared-unvisited, cleared-walked, cleared-then}
 
--- the cells of the records in the words
-pub cells-length : (n : ℕ) (ws : List ℕ) → length (map cellOf (recordsIn n ws)) ≡ n
-unfolding recordsIn
-cells-length n ws = length-map (recordsIn n ws) cellOf ∙ tabulate-length (wordRecord ws) n
-
-pub cell-at : (n : ℕ) (ws : List ℕ) (s : ℕ) → s < n → cellIn (map cellOf (recordsIn n ws)) s ≡ cellOf (wordRecord ws s)
-unfolding recordsIn cellOf
-cell-at n ws s l =
-    List·getD-map cellOf (recordsIn n ws) s (recordOf 1 0 0 0 0 0) ∙ ap cellOf (tabulate-at (wordRecord ws) n (recordOf 1 0 0 0 0 0) s l)
-
-pub cell-past : (n : ℕ) (ws : List ℕ) (s : ℕ) → n ≤ s → cellIn (map cellOf (recordsIn n ws)) s ≡ Input 0
-cell-past n ws s l = List·getD-eq-default (map cellOf (recordsIn n ws)) (Input 0) (omega (arith, cells-length n ws))
-
--- a test of a cell that is one of two
-module _ (q : Cell → Bool) where
-  pub neither : (b : Bool) (x y : Cell) → q x ≡ false → q y ≡ false → q (cond b x y) ≡ false
-  neither true x y e f = e
-  neither false x y e f = f
-
-  pub only : (b : Bool) (x y : Cell) → q x ≡ true → q y ≡ false → q (cond b x y) ≡ b
-  only true x y e f = e
-  only false x y e f = f
-
-  pub unless : (b c : Bool) (x y : Cell) → (b ≡ true → q x ≡ c) → q y ≡ c → q (cond b x y) ≡ c
-  unless true c x y e f = e refl
-  unless false c x y e f = f
-
--- kind 1 alone is an input
-pub input-kind : (r : Record) → isInput (cellOf r) ≡ eqb (r .kind) 1
-unfolding cellOf
-input-kind r =
-    only isInput (eqb (r .kind) 1) _ _ refl (neither isInput (eqb (r .kind) 2) _ _ refl (neither isInput (eqb (r .kind) 3) _ _ refl
-    (neither isInput (eqb (r .kind) 4) _ _ refl (neither isInput (eqb (r .kind) 5) _ _ refl (neither isInput (eqb (r .kind) 6) _ _ refl
-    (neither isInput (eqb (r .kind) 7) _ _ refl (neither isInput (eqb (r .kind) 8) _ _ refl refl)))))))
-
--- kind 2 alone is an output
-pub output-kind : (r : Record) → isOutput (cellOf r) ≡ eqb (r .kind) 2
-unfolding cellOf
-output-kind r =
-    unless isOutput (eqb (r .kind) 1) (eqb (r .kind) 2) _ _ (λ e. sym (ne-eqb (r .kind) 2 (λ q. absurd (omega (arith, eqb-true (r .kind) 1 e)))))
-    (only isOutput (eqb (r .kind) 2) _ _ refl (neither isOutput (eqb (r .kind) 3) _ _ refl (neither isOutput (eqb (r .kind) 4) _ _ refl
-    (neither isOutput (eqb (r .kind) 5) _ _ refl (neither isOutput (eqb (r .kind) 6) _ _ refl (neither isOutput (eqb (r .kind) 7) _ _ refl
-    (neither isOutput (eqb (r .kind) 8) _ _ refl refl)))))))
-
+-- an output and an input by the first word of a record
 pub output-word : (ws : List ℕ) (s x : ℕ) → x ≡ getD ws (s * 4) 0 → eqb (x % 256) 2 ≡ isOutput (cellOf (wordRecord ws s))
 unfolding wordRecord
 output-word ws s x e = ap (λ (y : ℕ). eqb (y % 256) 2) e ∙ sym (output-kind (wordRecord ws s))
@@ -88,17 +47,6 @@ output-word ws s x e = ap (λ (y : ℕ). eqb (y % 256) 2) e ∙ sym (output-kind
 pub input-word : (ws : List ℕ) (s x : ℕ) → x ≡ getD ws (s * 4) 0 → eqb (x % 256) 1 ≡ isInput (cellOf (wordRecord ws s))
 unfolding wordRecord
 input-word ws s x e = ap (λ (y : ℕ). eqb (y % 256) 1) e ∙ sym (input-kind (wordRecord ws s))
-
--- lists that pass a test
-pub those-append : {A : Type 0} (p : A → Bool) (xs ys : List A) → those p (xs ++ ys) ≡ those p xs ++ those p ys
-unfolding those
-those-append p [] ys = refl
-those-append {A} p (x ∷ xs) ys = go (p x) (those-append p xs ys)
-  where
-    go : (b : Bool) → those p (xs ++ ys) ≡ those p xs ++ those p ys
-        → cond b (x ∷ those p (xs ++ ys)) (those p (xs ++ ys)) ≡ cond b (x ∷ those p xs) (those p xs) ++ those p ys
-    go true e = ap (λ (zs : List A). x ∷ zs) e
-    go false e = e
 
 -- at most one passes
 driven-reverse : (p : ℕ → Bool) (d : Driver) → reverse (those p (drivenBy d)) ≡ those p (drivenBy d)

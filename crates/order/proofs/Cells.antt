@@ -20,7 +20,8 @@ use Rattle.order.specs.Code.{walkOf, visitedIn, unvisitedIn, cellsBy, Re
 use Rattle.order.specs.Descent.{bitsIn, readBy, readUpTo, depsFrom, Lowest}
 use Rattle.order.proofs.Walks.{each-append, walk-visited}
 use Rattle.order.proofs.Walking.{visited-of, walks-then, walks-records, walks-passed, walks-less, pushed-next, pushed}
-use Rattle.order.proofs.Bits.{cells-length, those-append}
+use Rattle.netlist.proofs.Lists.{those-append}
+use Rattle.netlist.proofs.Cells.{cells-length}
 
 -- the slots that pass a test
 those-same : (p q : ℕ → Bool) (xs : List ℕ) → ((x : ℕ) → p x ≡ q x) → those p xs ≡ those q xs

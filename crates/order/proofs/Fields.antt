@@ -1,14 +1,17 @@
 -- Operands by the fields of a record. Assumes nothing.
-use mathlib.Core.Path.{_≡_, refl, sym, ap₂, _∙_}
-use mathlib.Core.Bool.{Bool, true, false}
-use Prim.Native.Nat.{ℕ, zero, suc, _%_, _/_, _≤_}
-use native.Mathlib.Omega.{arith}
+use mathlib.Core.Path.{_≡_, refl, ap₂}
+use mathlib.Core.Bool.{Bool, true, false, cond}
+use Prim.Native.Nat.{ℕ, _%_, _/_}
 use lib.Dec.{eqb}
-use borrow.Author.Tests.{le-leb, lt-leb, ne-eqb}
 use Rattle.value.specs.declared.Net.{Net}
 use Rattle.value.specs.Value.{ZERO, netAt, net, fromNetInvert}
+use Rattle.kinds.specs.declared.Sort.{Sort}
+use Rattle.kinds.specs.declared.Sort.the-variants as sort
+use Rattle.kinds.specs.Kinds.{sortOf, kindTable, kindOf, useOf, isOperandUse}
 use Rattle.cell.specs.declared.Record.{Record}
-use Rattle.cell.specs.Records.{recordOf, cellOf}
+use Rattle.cell.specs.Operands.{fieldOf, isOperand}
+use Rattle.cell.specs.Records.{cellBy, cellOf}
+use Rattle.netlist.specs.Fields.{operandAt}
 use Rattle.order.specs.declared.Operands.{Operands}
 use Rattle.order.specs.Descent.{operandsOf, fieldOperands}
 
@@ -17,39 +20,26 @@ plain-net : (x : Net) (b : Bool) → x ≡ net (fromNetInvert x b)
 plain-net x true = refl
 plain-net x false = refl
 
-inverted : (a b : Net) (p q : Bool) → _≡_ {A = Operands} (record { 0 = a; 1 = b; 2 = ZERO }) (record { 0 = net (fromNetInvert a p); 1 = net (fromNetInvert b q); 2 = ZERO })
-inverted a b p q = ap₂ (λ (x y : Net). record { 0 = x; 1 = y; 2 = ZERO }) (plain-net a p) (plain-net b q)
+-- by sort
+netsBy : Sort → Record → Operands
+netsBy s r =
+    let at : Bool → ℕ → Net = λ b x. netAt (cond b x 0) in
+    record { 0 = at (isOperandUse (kindTable s .a)) (r .a); 1 = at (isOperandUse (kindTable s .b)) (r .b); 2 = at (isOperandUse (kindTable s .c)) (r .c) }
 
-past : (k f bit a b c : ℕ) → 9 ≤ k → fieldOperands (recordOf k f bit a b c) ≡ operandsOf (cellOf (recordOf k f bit a b c))
-unfolding fieldOperands cellOf operandsOf
-past k f bit a b c h =
-    let not-eq : (m : ℕ) → m ≤ 8 → eqb k m ≡ false = λ m l. ne-eqb k m (λ e. absurd (omega arith)) in
-    simp (
-      le-leb 1 k (omega arith),
-      lt-leb k 4 (omega arith),
-      not-eq 1 (omega arith),
-      not-eq 2 (omega arith),
-      not-eq 3 (omega arith),
-      not-eq 4 (omega arith),
-      not-eq 5 (omega arith),
-      not-eq 6 (omega arith),
-      not-eq 7 (omega arith),
-      not-eq 8 (omega arith),
-    )
-    (inverted (netAt a) (netAt b) (eqb (f % 2) 1) (eqb (f / 2 % 2) 1))
-
-by-kind : (k f bit a b c : ℕ) → fieldOperands (recordOf k f bit a b c) ≡ operandsOf (cellOf (recordOf k f bit a b c))
-unfolding fieldOperands cellOf operandsOf
-by-kind zero f bit a b c = inverted (netAt a) (netAt b) (eqb (f % 2) 1) (eqb (f / 2 % 2) 1)
-by-kind (suc zero) f bit a b c = refl
-by-kind (suc (suc zero)) f bit a b c = refl
-by-kind (suc (suc (suc zero))) f bit a b c = refl
-by-kind (suc (suc (suc (suc zero)))) f bit a b c = refl
-by-kind (suc (suc (suc (suc (suc zero))))) f bit a b c = refl
-by-kind (suc (suc (suc (suc (suc (suc zero)))))) f bit a b c = refl
-by-kind (suc (suc (suc (suc (suc (suc (suc zero))))))) f bit a b c = refl
-by-kind (suc (suc (suc (suc (suc (suc (suc (suc zero)))))))) f bit a b c = refl
-by-kind (suc (suc (suc (suc (suc (suc (suc (suc (suc k))))))))) f bit a b c = past (suc (suc (suc (suc (suc (suc (suc (suc (suc k))))))))) f bit a b c (omega arith)
+by-sort : (s : Sort) (r : Record) → netsBy s r ≡ operandsOf (cellBy s r)
+unfolding netsBy operandsOf
+by-sort sort.Unknown r = refl
+by-sort sort.Input r = refl
+by-sort sort.Output r = refl
+by-sort sort.Buf r = refl
+by-sort sort.Not r = refl
+by-sort sort.And r = refl
+by-sort sort.Or r = refl
+by-sort sort.Xor r = refl
+by-sort sort.Mux r = refl
+by-sort sort.Aig r =
+    ap₂ (λ (x y : Net). record { 0 = x; 1 = y; 2 = ZERO }) (plain-net (netAt (r .a)) (eqb (r .flags % 2) 1)) (plain-net (netAt (r .b)) (eqb (r .flags / 2 % 2) 1))
 
 pub field-operands : (r : Record) → fieldOperands r ≡ operandsOf (cellOf r)
-field-operands r = by-kind (r .kind) (r .flags) (r .bit) (r .a) (r .b) (r .c)
+unfolding fieldOperands operandAt isOperand useOf fieldOf kindOf cellOf netsBy
+field-operands r = by-sort (sortOf (r .kind)) r

@@ -26,7 +26,8 @@ use Rattle.netlist.specs.Areas.{wordRecord, recordsIn}
 use Rattle.order.specs.declared.Operands.{Operands}
 use Rattle.order.specs.Code.{visitedIn}
 use Rattle.order.specs.Descent.{operandsOf, bitsIn, startsOf, bitReads, readUpTo, readBy, Lowest, Lowers}
-use Rattle.order.proofs.Bits.{cell-at, sources-operands}
+use Rattle.netlist.proofs.Cells.{cell-at}
+use Rattle.order.proofs.Bits.{sources-operands}
 
 -- one of a list passes a test
 any-left : (p : ℕ → Bool) (xs ys : List ℕ) → anyOf p xs ≡ true → anyOf p (xs ++ ys) ≡ true

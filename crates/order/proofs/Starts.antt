@@ -26,7 +26,8 @@ use Rattle.order.specs.Starts.{startsThat, notOutput, Emits, PutsInputs,
 use Rattle.order.proofs.Walks.{count-set, each-append}
 use Rattle.order.proofs.Words.{new-below, order-frame, words-push, walk-pushed}
 use Rattle.order.proofs.Walking.{visited-of, unvisited-of, walks-none, walks-then, walks-ready, walks-records, walks-total, marked, marked-frame, marked-ready, cleared-walk, cleared-unvisited, cleared-records, cleared-then}
-use Rattle.order.proofs.Bits.{those-append, cell-at, cells-length}
+use Rattle.netlist.proofs.Lists.{those-append, those-length}
+use Rattle.netlist.proofs.Cells.{cell-at, cells-length}
 use Rattle.order.proofs.Lowest.{bits-length}
 use Rattle.order.proofs.Cells.{one-taken, one-left}
 
@@ -50,15 +51,6 @@ unfolding startsThat iterCells netlistOf bitsIn
 starts-cells q n ws =
     ap (λ (m : ℕ). those (λ s. q (cellIn (map cellOf (recordsIn n ws)) s)) (those (λ s. eqb (getD (bitsIn (recordsIn n ws)) s 0) 0) (slots m)))
     (sym (bits-length n ws))
-
-those-length : (p : ℕ → Bool) (xs : List ℕ) → length (those p xs) ≤ length xs
-unfolding those
-those-length p [] = omega arith
-those-length p (x ∷ xs) = go (p x) (those-length p xs)
-  where
-    go : (b : Bool) → length (those p xs) ≤ length xs → length (cond b (x ∷ those p xs) (those p xs)) ≤ suc (length xs)
-    go true h = omega arith
-    go false h = omega arith
 
 pub starts-length : (q : Cell → Bool) (rs : List Record) (m : ℕ) → length (startsThat q rs (slots m)) ≤ m
 unfolding startsThat

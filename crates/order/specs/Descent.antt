@@ -13,6 +13,7 @@ use Rattle.cell.specs.declared.Cell.the-variants.{Input, Output, Buf, Not, And,
 use Rattle.cell.specs.Records.{cellOf}
 use Rattle.cell.specs.Tabulate.{tabulate}
 use Rattle.netlist.specs.Shape.{visit, isInput}
+use Rattle.netlist.specs.Fields.{operandAt}
 use Rattle.netlist.specs.Netlist.{netlistOf, cellIn, slots, those, anyOf, joined, drivenBy, sources, startOf, run}
 use Rattle.order.specs.declared.Operands.{Operands}
 use Rattle.order.specs.Code.{visitedIn}
@@ -31,9 +32,7 @@ operandsOf (Aig p q) = record { 0 = net p; 1 = net q; 2 = ZERO }
 
 -- the same by the fields of a record
 unfoldable pub fieldOperands : Record → Operands
-fieldOperands r =
-    let k = r .kind in
-    record { 0 = netAt (cond (eqb k 1) 0 (r .a)); 1 = netAt (cond (leb 1 k && leb k 4) 0 (r .b)); 2 = netAt (cond (eqb k 8) (r .c) 0) }
+fieldOperands r = record { 0 = operandAt r 1; 1 = operandAt r 2; 2 = operandAt r 3 }
 
 -- the bit that a net leads down to: its slot unless that is an input
 unfoldable pub bitsOf : List Record → Net → List ℕ

@@ -1,6 +1,7 @@
 // Orders, after netlist/src/design.rs: the bits and the cells of a netlist, operands before readers. The marks of the walk and the
 // order stand in areas of the work slice behind the records.
 use netlist::area;
+use netlist::fields;
 use value::Driver;
 use value::Net;
 use value::Slot;
@@ -20,30 +21,25 @@ ghost use Rattle.order.specs.Starts.{startsThat, notOutput, Emits, PutsI
 // The nets that a cell reads, by field; a constant where there is none.
 struct Operands(Net, Net, Net);
 
-// Those of a slot's cell, from the fields of its record. No branch on the kind, which is hard to predict.
+// Those of a slot's cell, from the fields of its record.
 fn operands_at(work: &[u32], s: Slot) -> Operands
     ensures { λ r. ⌜ r ≡ operandsOf (cellOf (wordRecord (now (work .entry)) (s .0))) ⌝ }
 {
     let r = netlist::record_in(work, s);
-    let no_b = logic::both(1 <= r.kind, r.kind <= 4);
-    Operands(
-        Net(logic::pick32(r.kind == 1, 0, r.a)),
-        Net(logic::pick32(no_b, 0, r.b)),
-        Net(logic::pick32(r.kind == 8, r.c, 0)),
-    )
+    Operands(fields::net_a(r), fields::net_b(r), fields::net_c(r))
 }
 
 // Whether the cell of a slot is an input.
 pub fn is_input(work: &[u32], s: Slot) -> bool
     ensures { λ r. ⌜ r ≡ isInput (cellOf (wordRecord (now (work .entry)) (s .0))) ⌝ }
 {
-    cell::word(work, (s.0 as usize) * 4) % 256 == 1
+    cell::word(work, (s.0 as usize) * 4) % 256 == (kinds::INPUT as u32)
 }
 
 pub fn is_output(work: &[u32], s: Slot) -> bool
     ensures { λ r. ⌜ r ≡ isOutput (cellOf (wordRecord (now (work .entry)) (s .0))) ⌝ }
 {
-    cell::word(work, (s.0 as usize) * 4) % 256 == 2
+    cell::word(work, (s.0 as usize) * 4) % 256 == (kinds::OUTPUT as u32)
 }
 
 // Whether an item was visited; what is no item counts as visited.

@@ -26,7 +26,7 @@ use Rattle.checking.specs.Checking.{unknownKind, reservedField, bitOutOfSequenc
 use Rattle.checking.proofs.Groups.{kind-exactly, field-exactly, bit-exactly, operand-exactly, records-exactly, loops-exactly, netlist-exactly}
 use Rattle.netlist.specs.Shape.{visit, isOutput}
 use Rattle.netlist.specs.Netlist.{cellIn}
-use Rattle.order.proofs.Bits.{output-kind}
+use Rattle.netlist.proofs.Cells.{output-kind}
 use Rattle.order_laws.specs.Members.{All, Drives, Wired}
 use Rattle.order_laws.proofs.Truth.{neither}
 use Rattle.order_laws.proofs.Lists.{getD-mapped}

@@ -14,7 +14,7 @@ use Rattle.value.proofs.Laws.{net-of}
 use Rattle.cell.specs.declared.Record.{Record}
 use Rattle.cell.specs.declared.Cell.{Cell}
 use Rattle.cell.specs.declared.Cell.the-variants.{Input, Output, Buf, Not, And, Or, Xor, Mux, Aig}
-use Rattle.kinds.specs.Kinds.{kindOf, useOf}
+use Rattle.kinds.specs.Kinds.{kindOf, useOf, sortOf}
 use Rattle.cell.specs.Operands.{fieldOf, isOperand, isCombEdge, edgeOf, edgeAt}
 use Rattle.cell.specs.Records.{recordOf, cellOf, cellRecord}
 use Rattle.cell.specs.declared.Edge.the-variants.{To, Nowhere}
@@ -30,7 +30,7 @@ FieldHas P r f = isOperand r f ≡ true → P (netAt (fieldOf r f))
 
 read-by : (P : Net → Type 0) (k flags bit a b c : ℕ) → kindOf k .known ≡ true → ((f : ℕ) → FieldHas P (recordOf k flags bit a b c) f)
     → All P (visit (cellOf (recordOf k flags bit a b c)))
-unfolding All kindOf cellOf visit isOperand useOf fieldOf
+unfolding All kindOf cellOf visit isOperand useOf fieldOf sortOf
 read-by P zero flags bit a b c known h = absurd (false≢true known)
 read-by P (suc zero) flags bit a b c known h = tt
 read-by P (suc (suc zero)) flags bit a b c known h = (h 1 refl, tt)
@@ -58,7 +58,7 @@ clash e = absurd (false≢true e)
 
 pub fields-have : (P : Net → Type 0) (bit : ℕ) (c : Cell) → All P (visit c)
     → FieldHas P (cellRecord bit c) 1 × FieldHas P (cellRecord bit c) 2 × FieldHas P (cellRecord bit c) 3
-unfolding All visit cellRecord isOperand fieldOf useOf kindOf
+unfolding All visit cellRecord isOperand fieldOf useOf kindOf sortOf
 fields-have P bit (Input l) h = (clash, clash, clash)
 fields-have P bit (Output a l) h = ((λ e. h .0), clash, clash)
 fields-have P bit (Buf a) h = ((λ e. h .0), clash, clash)

@@ -10,7 +10,7 @@ use borrow.Author.Tests.{eqb-true, leb-true, ne-eqb, lt-leb}
 use Rattle.value.specs.declared.Net.{Net}
 use Rattle.cell.specs.declared.Cell.{Cell}
 use Rattle.cell.specs.declared.Cell.the-variants.{Input, Output, Buf, Not, And, Or, Xor, Mux, Aig}
-use Rattle.kinds.specs.Kinds.{kindOf}
+use Rattle.kinds.specs.Kinds.{kindOf, sortOf}
 use Rattle.cell.specs.Records.{cellRecord}
 use Rattle.netlist.specs.Shape.{visitMut, isInput, isOutput, hasEffects, isSplittable}
 use Rattle.netlist.specs.Netlist.{cellIn}
@@ -32,7 +32,7 @@ described : (f : Net → Net) (bit : ℕ) (c : Cell)
     × (isOutput c ≡ eqb (cellRecord bit c .kind) 2)
     × (hasEffects c ≡ leb (cellRecord bit c .kind) 2)
     × (isSplittable c ≡ (leb 3 (cellRecord bit c .kind) && leb (cellRecord bit c .kind) 8))
-unfolding cellRecord visitMut kindOf hasEffects
+unfolding cellRecord visitMut kindOf hasEffects sortOf
 described f bit (Input l) = (refl, refl, refl, refl, refl, refl, refl, refl)
 described f bit (Output a l) = (refl, refl, refl, refl, refl, refl, refl, refl)
 described f bit (Buf a) = (refl, refl, refl, refl, refl, refl, refl, refl)

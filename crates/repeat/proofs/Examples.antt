@@ -7,7 +7,7 @@ use lib.ListN.{getD, replicate}
 use Rattle.value.specs.Value.{eqNet, leNet, driver, isAlways, canonicalize, notControl, eqControl, leControl}
 use Rattle.cell.specs.declared.Record.{Record}
 use Rattle.cell.specs.Bytes.{word16, word32, bytes16, bytes32}
-use Rattle.kinds.specs.Kinds.{kindOf, useOf}
+use Rattle.kinds.specs.Kinds.{kindOf, useOf, sortOf}
 use Rattle.cell.specs.Operands.{fieldOf, isOperand, isCombEdge, edgeAt}
 use Rattle.cell.specs.Records.{recordOf, recordAt, recordsOf, bytesOf, cellOf, cellRecord}
 use Rattle.cell.specs.Tabulate.{tabulate}
@@ -51,7 +51,7 @@ v = encoded (netlistOf (inputs ++ (recordOf 2 0 0 7 9 0 ∷ recordOf 9 0 0 8 9 0
 
 -- a work and a reply slice that are long enough
 computed : Rewriting t u × Rewriting u v
-unfolding eqNet leNet driver isAlways canonicalize notControl eqControl leControl word16 word32 bytes16 bytes32 kindOf fieldOf useOf isOperand isCombEdge edgeAt recordAt recordsOf bytesOf cellOf cellRecord tabulate stepBack reachingIn reaches onLoop firstOf slotBySlot unknownKind reservedField follows outOfSequence bitOutOfSequence undrivenField undrivenOperand kindStages fieldStages bitStages operandStages recordStages loopStages sizeGroup recordGroup loopGroup netlistStages checkStages visit visitMut hasEffects netlistOf encode ticketOf those anyOf joined sources outputOf iterCells cellDeps Netlist.run each down walk walkFrom bitDeps topoSort unchanged followed mapNetNew findNewCell applied eqRecord eqCell seek keep keptSlots countKept netMap compact _orElse_ fromControl normalize ifNot ifAig ifXor notRule aigOfNot andAnd andWith aigOfAnd nandAnd xorOf nandNand nandWith aigOfNand xorAnd xorWith aigOfXor aigOrder aigRule andXor xorXor xorOrder xorRule simpleAigOpt stamp findCell entered finished weight rules process processCell addCell runItem runItems run rewrite put checkVerdict rewriteRun rewriteBytes rewriteStages rewriteVerdict rewriteAnswer rewriteReply
+unfolding eqNet leNet driver isAlways canonicalize notControl eqControl leControl word16 word32 bytes16 bytes32 kindOf fieldOf useOf isOperand isCombEdge edgeAt recordAt recordsOf bytesOf cellOf cellRecord tabulate stepBack reachingIn reaches onLoop firstOf slotBySlot unknownKind reservedField follows outOfSequence bitOutOfSequence undrivenField undrivenOperand kindStages fieldStages bitStages operandStages recordStages loopStages sizeGroup recordGroup loopGroup netlistStages checkStages visit visitMut hasEffects netlistOf encode ticketOf those anyOf joined sources outputOf iterCells cellDeps Netlist.run each down walk walkFrom bitDeps topoSort unchanged followed mapNetNew findNewCell applied eqRecord eqCell seek keep keptSlots countKept netMap compact _orElse_ fromControl normalize ifNot ifAig ifXor notRule aigOfNot andAnd andWith aigOfAnd nandAnd xorOf nandNand nandWith aigOfNand xorAnd xorWith aigOfXor aigOrder aigRule andXor xorXor xorOrder xorRule simpleAigOpt stamp findCell entered finished weight rules process processCell addCell runItem runItems run rewrite put checkVerdict rewriteRun rewriteBytes rewriteStages rewriteVerdict rewriteAnswer rewriteReply sortOf
 computed = (
   record { words = 16384; reply = replicate 160 255; count = 128; accepted = refl; result = refl },
   record { words = 16384; reply = replicate 160 255; count = 128; accepted = refl; result = refl },
@@ -65,12 +65,12 @@ second = computed .1
 
 -- byte 68, the net that the output reads, is 9 in u and 7 in v
 pub other-bytes : u ≡ v → ⊥
-unfolding bytesOf bytes16 bytes32 cellOf cellRecord tabulate netlistOf encode ticketOf joined
+unfolding bytesOf bytes16 bytes32 cellOf cellRecord tabulate netlistOf encode ticketOf joined sortOf
 other-bytes e = let z : _≡_ {A = ℕ} 9 7 = ap (λ (x : List ℕ). getD x 68 0) e in omega arith
 
 -- but the records pair off
 plain : NoAndInverter t
-unfolding anyOf recordsOf recordAt word16 word32 bytesOf bytes16 bytes32 cellOf cellRecord tabulate netlistOf encode ticketOf joined
+unfolding anyOf recordsOf recordAt word16 word32 bytesOf bytes16 bytes32 cellOf cellRecord tabulate netlistOf encode ticketOf joined sortOf
 plain = refl
 
 pub same-records : RecordsPaired (recordsOf v) (recordsOf u)

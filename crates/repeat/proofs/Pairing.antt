@@ -11,7 +11,7 @@ use Rattle.value.specs.declared.ControlNet.the-variants.{Pos, Neg}
 use Rattle.cell.specs.declared.Record.{Record}
 use Rattle.cell.specs.declared.Cell.{Cell}
 use Rattle.cell.specs.declared.Cell.the-variants.{Input, Output, Buf, Not, And, Or, Xor, Mux, Aig}
-use Rattle.kinds.specs.Kinds.{kindOf, useOf}
+use Rattle.kinds.specs.Kinds.{kindOf, useOf, sortOf}
 use Rattle.cell.specs.Operands.{fieldOf, isOperand}
 use Rattle.cell.specs.Records.{recordIn, cellRecord}
 use Rattle.netlist.specs.Shape.{visitMut, isInput, isOutput}
@@ -26,7 +26,7 @@ use Rattle.repeat.specs.Pairing.{recordBy, exchanged, slotsOfKind, Recor
 
 -- a cell's record by another numbering, and exchanged
 record-by : (p : ℕ → ℕ) (bit : ℕ) (c : Cell) → recordBy p (cellRecord bit c) ≡ cellRecord bit (visitMut (renumber p) c)
-unfolding recordBy cellRecord visitMut isOperand useOf kindOf fieldOf
+unfolding recordBy cellRecord visitMut isOperand useOf kindOf fieldOf sortOf
 record-by p bit (Input l) = refl
 record-by p bit (Output a l) = refl
 record-by p bit (Buf a) = refl

@@ -15,7 +15,7 @@ use Rattle.value.specs.declared.Net.{Net}
 use Rattle.value.specs.Value.{driver, netAt, eqNet}
 use Rattle.cell.specs.declared.Record.{Record}
 use Rattle.cell.specs.Records.{recordOf, recordIn}
-use Rattle.kinds.specs.Kinds.{kindOf, useOf}
+use Rattle.kinds.specs.Kinds.{kindOf, useOf, sortOf}
 use Rattle.cell.specs.Operands.{isOperand, fieldOf}
 use Rattle.cell.specs.Tabulate.{tabulate}
 use Rattle.netlist.specs.Netlist.{anyOf, slots, those}
@@ -224,7 +224,7 @@ forbidden =
     ∷ []
 
 computed : anyOf (λ (x : Example). not (unpaired (x .here) (x .there))) forbidden ≡ false
-unfolding tried every sameNumbers sameRecord below within closed fits unpaired recordBy exchanged slotsOfKind renumber driver eqNet kindOf useOf isOperand fieldOf tabulate those anyOf
+unfolding tried every sameNumbers sameRecord below within closed fits unpaired recordBy exchanged slotsOfKind renumber driver eqNet kindOf useOf isOperand fieldOf tabulate those anyOf sortOf
 computed = refl
 
 -- none of them pairs off

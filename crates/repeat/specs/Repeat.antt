@@ -5,6 +5,8 @@ use mathlib.Core.List.{List, [], _∷_}
 use Prim.Native.Nat.{ℕ}
 use lib.Dec.{eqb}
 use lib.ListN.{length, take}
+use Rattle.kinds.specs.declared.Sort.the-variants as sort
+use Rattle.kinds.specs.Kinds.{numberOf}
 use Rattle.cell.specs.Records.{recordsOf}
 use Rattle.checking.specs.declared.Verdict.{Verdict}
 use Rattle.checking.specs.Refusals.{firstOf}
@@ -20,7 +22,7 @@ use Rattle.repeat.specs.Pairing.{RecordsPaired}
 
 -- no record of the ticket is an and-inverter
 abbrev pub NoAndInverter : List ℕ → Type 0
-NoAndInverter t = anyOf (λ r. eqb (r .kind) 9) (recordsOf t) ≡ false
+NoAndInverter t = anyOf (λ r. eqb (r .kind) (numberOf sort.Aig)) (recordsOf t) ≡ false
 
 -- an accepted call that rewrites the ticket t, with a work slice of any length and any reply slice; its result u is the reply at return up
 -- to the byte count

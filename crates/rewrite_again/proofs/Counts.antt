@@ -9,7 +9,7 @@ use lib.ListN.{length, length-append}
 use borrow.Author.Tests.{eqb-true, eqb-false}
 use Rattle.cell.specs.Tabulate.{tabulate}
 use Rattle.netlist.specs.Netlist.{those, slots}
-use Rattle.order.proofs.Bits.{those-append}
+use Rattle.netlist.proofs.Lists.{those-append}
 use Rattle.order_laws.specs.Ordered.{has, OnceAfter, Each}
 use Rattle.order_laws.proofs.Truth.{either}
 use Rattle.order_laws.proofs.Members.{has-snoc-same, has-snoc-other, those-same, all-tabulate, has-first, has-later}

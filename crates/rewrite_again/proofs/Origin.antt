@@ -18,7 +18,7 @@ use Rattle.cell.specs.declared.Cell.{Cell}
 use Rattle.netlist.specs.Shape.{isSplittable}
 use Rattle.netlist.specs.Netlist.{cellIn, those}
 use Rattle.order.specs.Orders.{topoSort}
-use Rattle.order.proofs.Bits.{those-append}
+use Rattle.netlist.proofs.Lists.{those-append}
 use Rattle.design.specs.Queue.{netIn}
 use Rattle.order_laws.specs.Members.{All, Drives}
 use Rattle.order_laws.proofs.Bits.{topoSort-each}

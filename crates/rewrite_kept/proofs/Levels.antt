@@ -15,7 +15,7 @@ use Rattle.design.specs.declared.Source.{Source}
 use Rattle.design.specs.declared.Source.the-variants.{Known}
 use Rattle.normalize.specs.Outcomes.{fromControl}
 use Rattle.aig.specs.Aig.{xorOf}
-use Rattle.aig_laws.proofs.Strings.{HasAig, HasXor, as-is, turned}
+use Rattle.aig_laws.specs.Arms.{HasAig, HasXor, as-is, turned}
 use Rattle.levels_laws.specs.Algebra.{controlValue, cellValue}
 use Rattle.levels_laws.specs.Instances.{kleene}
 use Rattle.rewrite_kept.specs.Outcomes.{Constants, SourceFits, outcomeLevel}

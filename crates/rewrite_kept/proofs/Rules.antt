@@ -19,9 +19,11 @@ use Rattle.normalize.specs.Normalize.{normalize}
 use Rattle.aig.specs.Aig.{differ, notRule, aigOrder, aigRule, xorOrder, xorRule, simpleAigOpt}
 use Rattle.rewrite.specs.Rewriter.{Rewriter, Lookup, findCell}
 use Rattle.rewrite.specs.Rewrite.{rules}
-use Rattle.aig_laws.proofs.Strings.{HasXor, has-orElse}
-use Rattle.aig_laws.proofs.Arms as arm
-use Rattle.aig_laws.proofs.Arms.{NotArm, notArm, AigArm, aigArm, XorArm, xorArm}
+use Rattle.aig_laws.specs.Arms.{HasXor}
+use Rattle.aig_laws.proofs.Strings.{has-orElse}
+use Rattle.aig_laws.specs.Arms as arm
+use Rattle.aig_laws.specs.Arms.{NotArm, AigArm, XorArm}
+use Rattle.aig_laws.proofs.Arms.{notArm, aigArm, xorArm}
 use Rattle.levels_laws.specs.Algebra.{controlValue, cellValue}
 use Rattle.levels_laws.specs.Instances.{kleene}
 use Rattle.rewrite_kept.specs.Outcomes.{gateLevel, Constants, SourceFits, outcomeLevel, Refining}

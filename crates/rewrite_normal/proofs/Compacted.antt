@@ -16,7 +16,7 @@ use Rattle.value.specs.Value.{driver, slotAt}
 use Rattle.value.proofs.Laws.{cell-driver, driver-cell}
 use Rattle.cell.specs.declared.Cell.{Cell}
 use Rattle.cell.specs.declared.Cell.the-variants.{Input, Output, Buf, Not, And, Or, Xor, Mux, Aig}
-use Rattle.kinds.specs.Kinds.{kindOf}
+use Rattle.kinds.specs.Kinds.{kindOf, sortOf}
 use Rattle.cell.specs.Records.{cellRecord}
 use Rattle.netlist.specs.Shape.{visit, visitMut, isInput, hasEffects, isOutput}
 use Rattle.netlist.specs.Netlist.{cellIn}
@@ -88,7 +88,7 @@ ruled-gate (Aig p q) e = refl
 
 -- an input may have more bits than one, an output not
 input-or-one-bit : (bit : ℕ) (c : Cell) → hasEffects c ≡ true → isInput c ≡ false → kindOf (cellRecord bit c .kind) .«one_bit» ≡ true
-unfolding hasEffects kindOf
+unfolding hasEffects kindOf sortOf
 input-or-one-bit bit c e i =
     let two : cellRecord bit c .kind ≡ 2 = eqb-true (cellRecord bit c .kind) 2 (sym (output-kind bit c) ∙ sym (or-none (isInput c) (isOutput c) i) ∙ e) in
     subst (λ (k : ℕ). kindOf k .«one_bit» ≡ true) (sym two) refl

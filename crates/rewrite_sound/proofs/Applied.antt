@@ -9,7 +9,7 @@ use lib.Dec.{eqb, ltb, leb}
 use lib.ListN.{length, getD, replicate, length-append, length-replicate, List·getD-eq-default}
 use borrow.Author.Tests.{eqb-true, eqb-false, ltb-true, ltb-false, le-leb, leb-false, leb-true}
 use Rattle.cell.specs.declared.Cell.{Cell}
-use Rattle.kinds.specs.Kinds.{kindOf}
+use Rattle.kinds.specs.Kinds.{kindOf, sortOf}
 use Rattle.cell.specs.Records.{cellRecord}
 use Rattle.checking.specs.Checking.{outOfSequence}
 use Rattle.netlist.specs.Shape.{visit, visitMut, isOutput, hasEffects}
@@ -32,7 +32,7 @@ use Rattle.rewrite_sound.proofs.Ports.{more-slots, label-stays, ticket-
 
 -- a cell that may be rewritten in its slot is an and-inverter, so it has one bit
 in-place-one-bit : (bit : ℕ) (c : Cell) → InPlace c → kindOf (cellRecord bit c .kind) .«one_bit» ≡ true
-unfolding kindOf
+unfolding kindOf sortOf
 in-place-one-bit bit c h =
     let k : ℕ = cellRecord bit c .kind in
     let low : 2 < k = leb-false k 2 (sym (effects-kind bit c) ∙ h .1) in

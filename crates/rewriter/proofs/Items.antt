@@ -17,11 +17,10 @@ use Rattle.netlist.specs.Shape.{visitMut, hasEffects, isSplittable}
 use Rattle.netlist.specs.Netlist.{cellIn}
 use Rattle.order.specs.Orders.{bitDeps}
 use Rattle.design.specs.Queue.{Design, Entry, netIn, mapNetNew, findNewCell, replaceNet, replaceCell}
-use Rattle.design.specs.Fields.{renamedFields}
+use Rattle.netlist.specs.Fields.{renamedFields}
 use Rattle.design.specs.Words.{replacedIn}
 use Rattle.design.proofs.Words.{cell-at, replaced-length}
-use Rattle.design.proofs.Visiting.{renamed-cell}
-use Rattle.design.proofs.Applying.{replaced-zero}
+use Rattle.netlist.proofs.Operands.{renamed-cell}
 use Rattle.rewrite.specs.Rewriter.{Rewriter, Lookup, weight, finished}
 use Rattle.rewrite.specs.Rewrite as rewriting
 use Rattle.rewrite.specs.Rewrite.{Run, ran, stuck, bitDone, cellDone, addCell, processCell, runItem, andThen, runItems, slotsOf}
@@ -228,7 +227,7 @@ pub mapped-is : (x : Extent) (ws : List ℕ) (s : ℕ) → s < x .slots → (r o
 unfolding rewriterIn
 mapped-is x ws s h r own y c e₁ e₂ e₃ e₄ =
     let f : Net → Net = mapNetNew (replacedIn (x .tickets) ws) in
-    e₄ ∙ ap cellOf (e₃ ∙ ap (renamedFields f) e₂ ∙ renamed-cell f (replaced-zero (replacedIn (x .tickets) ws)) (r .bit) (cellOf r))
+    e₄ ∙ ap cellOf (e₃ ∙ ap (renamedFields f) e₂ ∙ renamed-cell f (r .bit) (cellOf r))
     ∙ cell-back (r .bit) (visitMut f (cellOf r)) ∙ ap (λ (z : Record). visitMut f (cellOf z)) e₁
     ∙ ap (visitMut f) (sym (cell-at (x .slots) ws s h))
 

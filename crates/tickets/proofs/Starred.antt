@@ -8,7 +8,7 @@ use lib.ListN.{getD}
 use Rattle.logic.specs.Levels.{levelOf, eqLevel}
 use Rattle.value.specs.Value.{eqNet, leNet, driver, isAlways, canonicalize, notControl, eqControl, leControl}
 use Rattle.cell.specs.Bytes.{word16, word32, bytes16, bytes32}
-use Rattle.kinds.specs.Kinds.{kindOf, useOf}
+use Rattle.kinds.specs.Kinds.{kindOf, useOf, sortOf}
 use Rattle.cell.specs.Operands.{fieldOf, isOperand, isCombEdge, edgeAt}
 use Rattle.cell.specs.Records.{recordAt, recordsOf, bytesOf, cellOf, cellRecord}
 use Rattle.cell.specs.Tabulate.{tabulate}
@@ -43,7 +43,7 @@ abbrev at : ℕ → Told × List ℕ → ℕ
 at i x = getD (x .0 .number ∷ x .0 .place ∷ x .0 .count ∷ x .0 .extra ∷ x .1) i 0
 
 as-printed : AsPrinted starred × AsPrinted corners × AsPrinted tables × AnsweredAsPrinted × WrongFail
-unfolding levelOf eqLevel eqNet leNet driver isAlways canonicalize notControl eqControl leControl word16 word32 bytes16 bytes32 kindOf fieldOf useOf isOperand isCombEdge edgeAt recordAt recordsOf bytesOf cellOf cellRecord tabulate stepBack reachingIn reaches onLoop firstOf slotBySlot unknownKind reservedField follows outOfSequence bitOutOfSequence undrivenField undrivenOperand kindStages fieldStages bitStages operandStages recordStages loopStages sizeGroup recordGroup loopGroup netlistStages checkStages gateCount visit visitMut hasEffects netlistOf encode ticketOf those anyOf joined sources outputOf iterCells cellDeps Netlist.run each down walk walkFrom bitDeps topoSort iterCellsTopo unchanged followed mapNetNew findNewCell applied didChange eqRecord eqCell seek keep keptSlots countKept netMap compact keyOf findOrInsertAll mergeCell mergeCells merging merge _orElse_ fromControl normalize ifNot ifAig ifXor notRule aigOfNot andAnd andWith aigOfAnd nandAnd xorOf nandNand nandWith aigOfNand xorAnd xorWith aigOfXor aigOrder aigRule andXor xorXor xorOrder xorRule simpleAigOpt stamp findCell entered finished weight rules process processCell addCell runItem runItems run rewrite netLevel cellLevel roundOf levelsIn levels givenLevels inputSlots outputSlots outputLevels put checkVerdict checkAnswer compactBytes compactVerdict compactAnswer compactReply mergeBytes mergeVerdict mergeAnswer mergeReply rewriteRun rewriteBytes rewriteStages rewriteVerdict rewriteAnswer rewriteReply levelBytes stimulusStages levelVerdict levelAnswer levelReply lines called computed printed starred corners tables AsPrinted given wanted trials AnsweredAsPrinted Fails WrongFail
+unfolding levelOf eqLevel eqNet leNet driver isAlways canonicalize notControl eqControl leControl word16 word32 bytes16 bytes32 kindOf fieldOf useOf isOperand isCombEdge edgeAt recordAt recordsOf bytesOf cellOf cellRecord tabulate stepBack reachingIn reaches onLoop firstOf slotBySlot unknownKind reservedField follows outOfSequence bitOutOfSequence undrivenField undrivenOperand kindStages fieldStages bitStages operandStages recordStages loopStages sizeGroup recordGroup loopGroup netlistStages checkStages gateCount visit visitMut hasEffects netlistOf encode ticketOf those anyOf joined sources outputOf iterCells cellDeps Netlist.run each down walk walkFrom bitDeps topoSort iterCellsTopo unchanged followed mapNetNew findNewCell applied didChange eqRecord eqCell seek keep keptSlots countKept netMap compact keyOf findOrInsertAll mergeCell mergeCells merging merge _orElse_ fromControl normalize ifNot ifAig ifXor notRule aigOfNot andAnd andWith aigOfAnd nandAnd xorOf nandNand nandWith aigOfNand xorAnd xorWith aigOfXor aigOrder aigRule andXor xorXor xorOrder xorRule simpleAigOpt stamp findCell entered finished weight rules process processCell addCell runItem runItems run rewrite netLevel cellLevel roundOf levelsIn levels givenLevels inputSlots outputSlots outputLevels put checkVerdict checkAnswer compactBytes compactVerdict compactAnswer compactReply mergeBytes mergeVerdict mergeAnswer mergeReply rewriteRun rewriteBytes rewriteStages rewriteVerdict rewriteAnswer rewriteReply levelBytes stimulusStages levelVerdict levelAnswer levelReply lines called computed printed starred corners tables AsPrinted given wanted trials AnsweredAsPrinted Fails WrongFail sortOf
 as-printed = (
   refl,
   refl,

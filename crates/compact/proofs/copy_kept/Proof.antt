@@ -7,7 +7,7 @@ use Rattle.compact.proofs.copy_kept.Lts as lts
 use Rattle.compact.proofs.is_noted.Reads as is-noted-reads
 use Rattle.compact.proofs.renumbered_record.Reads as renumbered-record-reads
 use Rattle.cell.proofs.write_record.Reads as write-record-reads
-use Rattle.design.proofs.visit.plain.Reads as plain-reads
+use Rattle.netlist.proofs.fields.plain.Reads as plain-reads
 use Rattle.netlist.proofs.record_in.Reads as record-in-reads
 
 -- src/lib.rt

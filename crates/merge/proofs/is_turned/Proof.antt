@@ -5,12 +5,17 @@ use Rattle.merge.proofs.is_turned.Statement.{statement}
 use Rattle.merge.proofs.is_turned.Tie as tie
 use Rattle.merge.proofs.is_turned.Reads as reads
 use Rattle.merge.proofs.is_turned.Lts as lts
+use Rattle.kinds.proofs.operands_commute.Reads as operands-commute-reads
 use Rattle.logic.proofs.both.Reads as both-reads
 use Rattle.logic.proofs.either.Reads as either-reads
 
 -- src/lib.rt
 both-requires : tie.Need-both-requires
 both-requires c κs = search needs
+
+-- src/lib.rt
+operands-commute-requires : tie.Need-operands-commute-requires
+operands-commute-requires c κs = search needs
 
 -- src/lib.rt
 either-requires : tie.Need-either-requires
@@ -21,14 +26,6 @@ both-requires-2 : tie.Need-both-requires-2
 both-requires-2 c κs = search needs
 
 -- src/lib.rt
-either-requires-2 : tie.Need-either-requires-2
-either-requires-2 c κs = search needs
-
--- src/lib.rt
-both-requires-3 : tie.Need-both-requires-3
-both-requires-3 c κs = search needs
-
--- src/lib.rt
 returns : tie.Need-returns
 unfolding turned
 returns c = cc
@@ -36,10 +33,4 @@ returns c = cc
 pub is-turned-spec : {M : Type 1} → statement M
 is-turned-spec =
     tie.close
-    (tie.spec
-    both-requires
-    either-requires
-    both-requires-2
-    either-requires-2
-    both-requires-3
-    returns)
+    (tie.spec both-requires operands-commute-requires either-requires both-requires-2 returns)

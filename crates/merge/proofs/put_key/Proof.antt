@@ -6,7 +6,7 @@ use Rattle.merge.proofs.put_key.Tie as tie
 use Rattle.merge.proofs.put_key.Reads as reads
 use Rattle.merge.proofs.put_key.Lts as lts
 use Rattle.design.proofs.queue.replaced_record.Reads as replaced-record-reads
-use Rattle.design.proofs.visit.plain.Reads as plain-reads
+use Rattle.netlist.proofs.fields.plain.Reads as plain-reads
 use Rattle.merge.proofs.key_record.Reads as key-record-reads
 use Rattle.netlist.proofs.put_record.Reads as put-record-reads
 use Rattle.netlist.proofs.record_in.Reads as record-in-reads

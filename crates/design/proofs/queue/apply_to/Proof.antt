@@ -6,7 +6,7 @@ use Rattle.design.proofs.queue.apply_to.Reads as reads
 use Rattle.design.proofs.queue.apply_to.Lts as lts
 use Rattle.design.proofs.queue.put_replaced.Reads as put-replaced-reads
 use Rattle.design.proofs.queue.record_eq.Reads as record-eq-reads
-use Rattle.design.proofs.visit.plain.Reads as plain-reads
+use Rattle.netlist.proofs.fields.plain.Reads as plain-reads
 use Rattle.netlist.proofs.record_in.Reads as record-in-reads
 
 -- src/queue.rt

@@ -7,7 +7,7 @@ use Rattle.rewriter.proofs.run.mapped_cell.Reads as reads
 use Rattle.rewriter.proofs.run.mapped_cell.Lts as lts
 use Rattle.cell.proofs.cell_of.Reads as cell-of-reads
 use Rattle.design.proofs.queue.replaced_record.Reads as replaced-record-reads
-use Rattle.design.proofs.visit.plain.Reads as plain-reads
+use Rattle.netlist.proofs.fields.plain.Reads as plain-reads
 use Rattle.netlist.proofs.record_in.Reads as record-in-reads
 
 -- src/run.rt

@@ -1,0 +1,42 @@
+-- The cells of the records in the work slice, and their sorts by kind number. Assumes nothing.
+use mathlib.Core.Path.{_≡_, sym, ap, _∙_}
+use mathlib.Core.List.{List, map}
+use Prim.Native.Nat.{ℕ, _<_, _≤_}
+use native.Mathlib.Omega.{arith}
+use lib.Dec.{eqb}
+use lib.ListN.{length, getD, length-map, List·getD-map, List·getD-eq-default}
+use Rattle.kinds.specs.declared.Sort.the-variants as sort
+use Rattle.kinds.specs.Kinds.{sortOf, numberOf}
+use Rattle.kinds.proofs.Laws.{rowsAgree, by-row}
+use Rattle.kinds.proofs.Tests.{past-one}
+use Rattle.cell.specs.declared.Record.{Record}
+use Rattle.cell.specs.declared.Cell.the-variants.{Input}
+use Rattle.cell.specs.Records.{recordOf, cellBy, cellOf}
+use Rattle.cell.proofs.Lists.{tabulate-length, tabulate-at}
+use Rattle.netlist.specs.Shape.{isInput, isOutput}
+use Rattle.netlist.specs.Netlist.{cellIn}
+use Rattle.netlist.specs.Areas.{wordRecord, recordsIn}
+
+module _ (n : ℕ) (ws : List ℕ) where
+  pub cells-length : length (map cellOf (recordsIn n ws)) ≡ n
+  unfolding recordsIn
+  cells-length = length-map (recordsIn n ws) cellOf ∙ tabulate-length (wordRecord ws) n
+
+  pub cell-at : (s : ℕ) → s < n → cellIn (map cellOf (recordsIn n ws)) s ≡ cellOf (wordRecord ws s)
+  unfolding recordsIn cellOf sortOf
+  cell-at s l =
+      List·getD-map cellOf (recordsIn n ws) s (recordOf 1 0 0 0 0 0) ∙ ap cellOf (tabulate-at (wordRecord ws) n (recordOf 1 0 0 0 0 0) s l)
+
+  pub cell-past : (s : ℕ) → n ≤ s → cellIn (map cellOf (recordsIn n ws)) s ≡ Input 0
+  cell-past s l = List·getD-eq-default (map cellOf (recordsIn n ws)) (Input 0) (omega (arith, cells-length))
+
+-- one kind alone is an input, one an output
+pub input-kind : (r : Record) → isInput (cellOf r) ≡ eqb (r .kind) (numberOf sort.Input)
+unfolding cellOf rowsAgree
+input-kind r =
+    sym (by-row (λ k. eqb k (numberOf sort.Input)) (λ s. isInput (cellBy s r)) tt (λ k l. past-one (numberOf sort.Input) k (omega arith) l) (r .kind))
+
+pub output-kind : (r : Record) → isOutput (cellOf r) ≡ eqb (r .kind) (numberOf sort.Output)
+unfolding cellOf rowsAgree
+output-kind r =
+    sym (by-row (λ k. eqb k (numberOf sort.Output)) (λ s. isOutput (cellBy s r)) tt (λ k l. past-one (numberOf sort.Output) k (omega arith) l) (r .kind))

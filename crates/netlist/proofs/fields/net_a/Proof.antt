@@ -1,0 +1,28 @@
+use mathlib.Core.Path.{ap, _∙_}
+use Rattle.value.specs.Value.{netAt}
+use Rattle.kinds.specs.Kinds.{useOf}
+use Rattle.cell.specs.Operands.{fieldOf, isOperand}
+use Rattle.netlist.specs.Fields.{operandAt}
+use borrow.Author.Needs.{needs}
+use Rattle.netlist.proofs.fields.net_a.Statement.{statement}
+use Rattle.netlist.proofs.fields.net_a.Tie as tie
+use Rattle.netlist.proofs.fields.net_a.Reads as reads
+use Rattle.netlist.proofs.fields.net_a.Lts as lts
+use Rattle.kinds.proofs.net_in_a.Reads as net-in-a-reads
+use Rattle.logic.proofs.pick32.Reads as pick32-reads
+
+-- src/fields.rt:27:23
+net-in-a-requires : tie.Need-net-in-a-requires
+net-in-a-requires c κs = search needs
+
+-- src/fields.rt:27:9
+pick32-requires : tie.Need-pick32-requires
+pick32-requires c κs = search needs
+
+-- src/fields.rt:24:1
+returns : tie.Need-returns
+unfolding operandAt isOperand useOf fieldOf
+returns c = ap netAt (c .pick32 .ensures ∙ rw (c .before .net-in-a .ensures))
+
+pub net-a-spec : {M : Type 1} → statement M
+net-a-spec = tie.close (tie.spec net-in-a-requires pick32-requires returns)

@@ -1,0 +1,79 @@
+use Rattle.netlist.specs.Fields.{plainFields}
+use Rattle.netlist.proofs.Operands.{plain-is}
+use borrow.Author.Needs.{needs}
+use Rattle.netlist.proofs.fields.plain.Statement.{statement}
+use Rattle.netlist.proofs.fields.plain.Tie as tie
+use Rattle.netlist.proofs.fields.plain.Reads as reads
+use Rattle.netlist.proofs.fields.plain.Lts as lts
+use Rattle.kinds.proofs.has_flags.Reads as has-flags-reads
+use Rattle.kinds.proofs.is_known.Reads as is-known-reads
+use Rattle.kinds.proofs.net_in_c.Reads as net-in-c-reads
+use Rattle.kinds.proofs.uses_b.Reads as uses-b-reads
+use Rattle.logic.proofs.pick32.Reads as pick32-reads
+use Rattle.logic.proofs.pick8.Reads as pick8-reads
+
+-- src/fields.rt:12:9
+is-known-requires : tie.Need-is-known-requires
+is-known-requires c κs = search needs
+
+-- src/fields.rt:14:15
+pick8-requires : tie.Need-pick8-requires
+pick8-requires c κs = search needs
+
+-- src/fields.rt:15:29
+has-flags-requires : tie.Need-has-flags-requires
+has-flags-requires c κs = search needs
+
+-- src/fields.rt:15:69
+mul-pick8 : tie.Need-mul-pick8
+mul-pick8 c = search needs
+
+-- src/fields.rt:15:55
+add-pick8 : tie.Need-add-pick8
+add-pick8 c = search needs
+
+-- src/fields.rt:15:16
+pick8-requires-2 : tie.Need-pick8-requires-2
+pick8-requires-2 c κs = search needs
+
+-- src/fields.rt:17:12
+pick32-requires : tie.Need-pick32-requires
+pick32-requires c κs = search needs
+
+-- src/fields.rt:18:26
+uses-b-requires : tie.Need-uses-b-requires
+uses-b-requires c κs = search needs
+
+-- src/fields.rt:18:12
+pick32-requires-2 : tie.Need-pick32-requires-2
+pick32-requires-2 c κs = search needs
+
+-- src/fields.rt:19:26
+net-in-c-requires : tie.Need-net-in-c-requires
+net-in-c-requires c κs = search needs
+
+-- src/fields.rt:19:12
+pick32-requires-3 : tie.Need-pick32-requires-3
+pick32-requires-3 c κs = search needs
+
+-- src/fields.rt:9:1
+returns : tie.Need-returns
+unfolding plainFields
+returns c = rw (← plain-is) cc
+
+pub plain-spec : {M : Type 1} → statement M
+plain-spec =
+    tie.close
+    (tie.spec
+    is-known-requires
+    pick8-requires
+    has-flags-requires
+    mul-pick8
+    add-pick8
+    pick8-requires-2
+    pick32-requires
+    uses-b-requires
+    pick32-requires-2
+    net-in-c-requires
+    pick32-requires-3
+    returns)
