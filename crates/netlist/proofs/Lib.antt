@@ -1,2 +1,3 @@
 pub mod Frames
 pub mod Areas
+pub mod Sources

@@ -25,7 +25,7 @@ use Rattle.cell.specs.declared.Cell.the-variants.{Input, Output, Buf, Not, And,
 use Rattle.cell.specs.Tabulate.{tabulate}
 use Rattle.cell.specs.Records.{recordOf, cellOf}
 use Rattle.cell.proofs.Lists.{tabulate-length, tabulate-at}
-use Rattle.netlist.specs.Shape.{visit, isInput, isOutput}
+use Rattle.netlist.specs.Shape.{visit, isSource, isOutput}
 use Rattle.netlist.specs.Netlist.{cellIn, slots, those, joined, drivenBy, sources}
 use Rattle.netlist.specs.Areas.{wordRecord, recordsIn, wordsIn, orderAt, visitedAt}
 use Rattle.order.specs.declared.Operands.{Operands}
@@ -64,13 +64,13 @@ module _ (q : Cell → Bool) where
   unless true c x y e f = e refl
   unless false c x y e f = f
 
--- kind 1 alone is an input
-pub input-kind : (r : Record) → isInput (cellOf r) ≡ eqb (r .kind) 1
+-- kind 1 alone is a source
+pub source-kind : (r : Record) → isSource (cellOf r) ≡ eqb (r .kind) 1
 unfolding cellOf
-input-kind r =
-    only isInput (eqb (r .kind) 1) _ _ refl (neither isInput (eqb (r .kind) 2) _ _ refl (neither isInput (eqb (r .kind) 3) _ _ refl
-    (neither isInput (eqb (r .kind) 4) _ _ refl (neither isInput (eqb (r .kind) 5) _ _ refl (neither isInput (eqb (r .kind) 6) _ _ refl
-    (neither isInput (eqb (r .kind) 7) _ _ refl (neither isInput (eqb (r .kind) 8) _ _ refl refl)))))))
+source-kind r =
+    only isSource (eqb (r .kind) 1) _ _ refl (neither isSource (eqb (r .kind) 2) _ _ refl (neither isSource (eqb (r .kind) 3) _ _ refl
+    (neither isSource (eqb (r .kind) 4) _ _ refl (neither isSource (eqb (r .kind) 5) _ _ refl (neither isSource (eqb (r .kind) 6) _ _ refl
+    (neither isSource (eqb (r .kind) 7) _ _ refl (neither isSource (eqb (r .kind) 8) _ _ refl refl)))))))
 
 -- kind 2 alone is an output
 pub output-kind : (r : Record) → isOutput (cellOf r) ≡ eqb (r .kind) 2
@@ -85,9 +85,9 @@ pub output-word : (ws : List ℕ) (s x : ℕ) → x ≡ getD ws (s * 4) 0 → eq
 unfolding wordRecord
 output-word ws s x e = ap (λ (y : ℕ). eqb (y % 256) 2) e ∙ sym (output-kind (wordRecord ws s))
 
-pub input-word : (ws : List ℕ) (s x : ℕ) → x ≡ getD ws (s * 4) 0 → eqb (x % 256) 1 ≡ isInput (cellOf (wordRecord ws s))
+pub source-word : (ws : List ℕ) (s x : ℕ) → x ≡ getD ws (s * 4) 0 → eqb (x % 256) 1 ≡ isSource (cellOf (wordRecord ws s))
 unfolding wordRecord
-input-word ws s x e = ap (λ (y : ℕ). eqb (y % 256) 1) e ∙ sym (input-kind (wordRecord ws s))
+source-word ws s x e = ap (λ (y : ℕ). eqb (y % 256) 1) e ∙ sym (source-kind (wordRecord ws s))
 
 -- lists that pass a test
 pub those-append : {A : Type 0} (p : A → Bool) (xs ys : List A) → those p (xs ++ ys) ≡ those p xs ++ those p ys
@@ -139,8 +139,8 @@ reverse-three p x y z = rw (
 pub bits-by : (rs : List Record) (s : ℕ) → bitsBy rs s ≡ operandBits rs (operandsOf (cellIn (map cellOf rs) s))
 unfolding bitsBy bitDeps operandBits bitsOf
 bits-by rs s =
-    ap (λ (xs : List ℕ). reverse (those (λ x. not (isInput (cellIn (map cellOf rs) x))) xs)) (sources-operands (cellIn (map cellOf rs) s))
-    ∙ reverse-three (λ x. not (isInput (cellIn (map cellOf rs) x))) (driver (operandsOf (cellIn (map cellOf rs) s) .0))
+    ap (λ (xs : List ℕ). reverse (those (λ x. not (isSource (cellIn (map cellOf rs) x))) xs)) (sources-operands (cellIn (map cellOf rs) s))
+    ∙ reverse-three (λ x. not (isSource (cellIn (map cellOf rs) x))) (driver (operandsOf (cellIn (map cellOf rs) s) .0))
     (driver (operandsOf (cellIn (map cellOf rs) s) .1)) (driver (operandsOf (cellIn (map cellOf rs) s) .2))
 
 -- past the items there is nothing to walk to
@@ -151,36 +151,36 @@ walks-nothing n count ws ws′ r s l v = record {
   frame = v .frame;
 }
 
--- a net that is constant or leads to an input
+-- a net that is constant or leads to a source
 module _ (n count : ℕ) (ws : List ℕ) (x : Net) (d : Driver) (e : d ≡ driver x) where
   pub net-constant : (t : Trit) → d ≡ driven.Const t → Walks bitsBy (bitsOf (recordsIn n ws) x) n count ws ws count
   unfolding bitsOf those
   net-constant t q = rw (sym e ∙ q) (walks-none bitsBy n count ws)
 
-  module _ (s : Slot) (q : d ≡ driven.Cell s) (b : Bool) (i : b ≡ isInput (cellOf (wordRecord ws (s .0)))) where
+  module _ (s : Slot) (q : d ≡ driven.Cell s) (b : Bool) (i : b ≡ isSource (cellOf (wordRecord ws (s .0)))) where
     abbrev kept : List ℕ
-    kept = those (λ y. not (isInput (cellIn (map cellOf (recordsIn n ws)) y))) (s .0 ∷ [])
+    kept = those (λ y. not (isSource (cellIn (map cellOf (recordsIn n ws)) y))) (s .0 ∷ [])
 
     bits-cell : bitsOf (recordsIn n ws) x ≡ kept
     unfolding bitsOf
-    bits-cell = ap (λ (y : Driver). those (λ z. not (isInput (cellIn (map cellOf (recordsIn n ws)) z))) (drivenBy y)) (sym e ∙ q)
+    bits-cell = ap (λ (y : Driver). those (λ z. not (isSource (cellIn (map cellOf (recordsIn n ws)) z))) (drivenBy y)) (sym e ∙ q)
 
-    left-out : isInput (cellIn (map cellOf (recordsIn n ws)) (s .0)) ≡ true → kept ≡ []
+    left-out : isSource (cellIn (map cellOf (recordsIn n ws)) (s .0)) ≡ true → kept ≡ []
     unfolding those
     left-out h = rw h
 
-    taken : isInput (cellIn (map cellOf (recordsIn n ws)) (s .0)) ≡ false → kept ≡ s .0 ∷ []
+    taken : isSource (cellIn (map cellOf (recordsIn n ws)) (s .0)) ≡ false → kept ≡ s .0 ∷ []
     unfolding those
     taken h = rw h
 
     past : n ≤ s .0 → kept ≡ []
-    past l = left-out (ap isInput (cell-past n ws (s .0) l))
+    past l = left-out (ap isSource (cell-past n ws (s .0) l))
 
-    at : s .0 < n → isInput (cellIn (map cellOf (recordsIn n ws)) (s .0)) ≡ b
-    at l = ap isInput (cell-at n ws (s .0) l) ∙ sym i
+    at : s .0 < n → isSource (cellIn (map cellOf (recordsIn n ws)) (s .0)) ≡ b
+    at l = ap isSource (cell-at n ws (s .0) l) ∙ sym i
 
-    pub net-input : b ≡ true → Walks bitsBy (bitsOf (recordsIn n ws) x) n count ws ws count
-    net-input t =
+    pub net-source : b ≡ true → Walks bitsBy (bitsOf (recordsIn n ws) x) n count ws ws count
+    net-source t =
         subst (λ (xs : List ℕ). Walks bitsBy xs n count ws ws count) (sym (bits-cell ∙ go (decLt (s .0) n))) (walks-none bitsBy n count ws)
       where
         go : Dec (s .0 < n) → kept ≡ []

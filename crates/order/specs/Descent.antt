@@ -12,7 +12,7 @@ use Rattle.cell.specs.declared.Cell.{Cell}
 use Rattle.cell.specs.declared.Cell.the-variants.{Input, Output, Buf, Not, And, Or, Xor, Mux, Aig}
 use Rattle.cell.specs.Records.{cellOf}
 use Rattle.cell.specs.Tabulate.{tabulate}
-use Rattle.netlist.specs.Shape.{visit, isInput}
+use Rattle.netlist.specs.Shape.{visit, isSource}
 use Rattle.netlist.specs.Netlist.{netlistOf, cellIn, slots, those, anyOf, joined, drivenBy, sources, startOf, run}
 use Rattle.order.specs.declared.Operands.{Operands}
 use Rattle.order.specs.Code.{visitedIn}
@@ -35,9 +35,9 @@ fieldOperands r =
     let k = r .kind in
     record { 0 = netAt (cond (eqb k 1) 0 (r .a)); 1 = netAt (cond (leb 1 k && leb k 4) 0 (r .b)); 2 = netAt (cond (eqb k 8) (r .c) 0) }
 
--- the bit that a net leads down to: its slot unless that is an input
+-- the bit that a net leads down to: its slot unless that is a source
 unfoldable pub bitsOf : List Record → Net → List ℕ
-bitsOf rs x = those (λ s. not (isInput (cellIn (map cellOf rs) s))) (drivenBy (driver x))
+bitsOf rs x = those (λ s. not (isSource (cellIn (map cellOf rs) s))) (drivenBy (driver x))
 
 -- the bits that operands lead down to, the last first
 unfoldable pub operandBits : List Record → Operands → List ℕ
