@@ -85,9 +85,8 @@ deps-other cs s d e =
     let ns : List ℕ = sources (visit (cellIn cs s)) in
     not-true (isSource (cellIn cs d)) (and-both (has d ns) _ (sym (has-those (λ x. not (isSource (cellIn cs x))) ns d) ∙ e) .1)
 
--- a rank with the sources above all others. Where the rank falls along what each cell reads within a tick, this one falls along the bits
--- that a bit depends on: no bit depends on a source
-unfoldable above : (ℕ → ℕ) → ℕ → ℕ
+-- a number above the ranks of the first n slots
+unfoldable pub above : (ℕ → ℕ) → ℕ → ℕ
 above rank zero = 0
 above rank (suc n) = above rank n + suc (rank n)
 
@@ -99,6 +98,8 @@ above-each rank (suc n) s l =
     (λ e. let q : rank s ≡ rank n = ap rank (eqb-true s n e) in omega arith)
     (λ e. let h : rank s < above rank n = above-each rank n s (omega (arith, eqb-false s n e)) in omega arith)
 
+-- a rank with the sources above all others. Where the rank falls along what each cell reads within a tick, this one falls along the bits
+-- that a bit depends on: no bit depends on a source
 unfoldable pub sourcesLast : List Cell → (ℕ → ℕ) → ℕ → ℕ
 sourcesLast cs rank s = cond (isSource (cellIn cs s)) (above rank (length cs)) (rank s)
 

@@ -24,6 +24,7 @@ use Rattle.design.specs.Queue.{netIn}
 use Rattle.order_laws.specs.Ordered.{has}
 use Rattle.order_laws.specs.Members.{All, Drives}
 use Rattle.order_laws.proofs.Truth.{either, or-left, or-right}
+use Rattle.order_laws.proofs.Sorts.{source-mapped}
 use Rattle.order_laws.proofs.Members.{all-imp, all-map, all-unmap, all-append, all-joined, has-first, has-all, has-append, has-any, those-pass}
 
 -- a function put to each operand
@@ -65,6 +66,9 @@ module _ (P : Net → Type 0) (c : Cell) where
 
   pub all-comb : isSource c ≡ false → All P (combReads c) → All P (visit c)
   all-comb e h = subst (All P) (other-comb c e) h
+
+pub visited-comb : (P : Net → Type 0) (f : Net → Net) (c : Cell) → All (λ n. P (f n)) (combReads c) → All P (combReads (visitMut f c))
+visited-comb P f c h = comb-by P (visitMut f c) (λ e. visited-all P f c (all-comb (λ n. P (f n)) c (sym (source-mapped f c) ∙ e) h))
 
 -- an input reads nothing
 pub input-reads : (P : Net → Type 0) (c : Cell) → isInput c ≡ true → All P (visit c)
