@@ -95,7 +95,7 @@ unfolding isCombEdge
 other-edge r f x o e d = edge-to r f x e d
 
 -- and the operand in the field by which an edge leads on
-pub edge-from : (r : Record) (f : ℕ) (x : Slot) → edgeAt r f ≡ To x → (isOperand r f ≡ true) × (driver (netAt (fieldOf r f)) ≡ driven.Cell x)
+edge-from : (r : Record) (f : ℕ) (x : Slot) → edgeAt r f ≡ To x → (isOperand r f ≡ true) × (driver (netAt (fieldOf r f)) ≡ driven.Cell x)
 unfolding edgeAt isCombEdge
 edge-from r f x e = go (isOperand r f) (driver (netAt (fieldOf r f))) refl refl e
   where
@@ -124,7 +124,7 @@ source-fields bit (Xor a b) e = clash e
 source-fields bit (Mux a b c) e = clash e
 source-fields bit (Aig p q) e = clash e
 
-pub source-edge : {A : Type 0} (bit : ℕ) (c : Cell) → isSource c ≡ true → (f : ℕ) (x : Slot) → edgeAt (cellRecord bit c) f ≡ To x → A
+source-edge : {A : Type 0} (bit : ℕ) (c : Cell) → isSource c ≡ true → (f : ℕ) (x : Slot) → edgeAt (cellRecord bit c) f ≡ To x → A
 source-edge {A} bit c s f x e =
     let r : Record = cellRecord bit c in
     let g = source-fields bit c s in
