@@ -1,8 +1,7 @@
 -- Sources, and what a cell reads within a tick. Assumes nothing.
 use mathlib.Core.Path.{_≡_, refl, ap}
 use mathlib.Core.Bool.{Bool, true, false, cond, false≢true}
-use mathlib.Core.List.{List, []}
-use Rattle.value.specs.declared.Net.{Net}
+use mathlib.Core.List.{[]}
 use Rattle.cell.specs.declared.Cell.{Cell}
 use Rattle.cell.specs.declared.Cell.the-variants.{Input, Output, Buf, Not, And, Or, Xor, Mux, Aig}
 use Rattle.netlist.specs.Shape.{visit, isInput, isSource, combReads}

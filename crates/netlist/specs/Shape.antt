@@ -49,7 +49,7 @@ isInput (Xor a b) = false
 isInput (Mux a b c) = false
 isInput (Aig p q) = false
 
--- a source has its level from outside the tick: design.rs, `is_comb_edge`, which asks it of the driver of a net
+-- a source has its level from outside the tick. design.rs, `is_comb_edge`, asks it of the driver of a net, and a source drives no such edge
 abbrev pub isSource : Cell → Bool
 isSource (Input l) = true
 isSource (Output a l) = false
@@ -61,7 +61,7 @@ isSource (Xor a b) = false
 isSource (Mux a b c) = false
 isSource (Aig p q) = false
 
--- what a cell reads within a tick: loops, levels and ranks go by it, and by `visit` what it reads at all
+-- what a cell reads within a tick: loops, levels and ranks go by it. What it reads at all is `visit`
 unfoldable pub combReads : Cell → List Net
 combReads c = cond (isSource c) [] (visit c)
 

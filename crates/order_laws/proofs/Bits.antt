@@ -61,7 +61,7 @@ topoSort-fed cs rank falls =
     (λ s d h. falls s d (sym (has-reverse d (bitDeps cs s)) ∙ h)))
 
 -- what holds of each slot that drives an operand holds of each bit that a bit depends on
-pub deps-have : (P : ℕ → Type 0) (cs : List Cell) (s : ℕ) → (s < length cs → All (Drives P) (visit (cellIn cs s))) → (d : ℕ) → has d (bitDeps cs s) ≡ true → P d
+deps-have : (P : ℕ → Type 0) (cs : List Cell) (s : ℕ) → (s < length cs → All (Drives P) (visit (cellIn cs s))) → (d : ℕ) → has d (bitDeps cs s) ≡ true → P d
 unfolding bitDeps
 deps-have P cs s h d e =
     sources-all P (visit (cellIn cs s)) (go (decLt s (length cs))) d (those-has (λ x. not (isSource (cellIn cs x))) (sources (visit (cellIn cs s))) d e)

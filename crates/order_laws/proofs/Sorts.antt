@@ -129,9 +129,6 @@ module _ (c : Cell) where
   unfolding hasEffects
   gate-by i o = rw (i, o)
 
-  pub input-no-output : isInput c ≡ true → isOutput c ≡ false
-  input-no-output e = output-kind 0 c ∙ ne-eqb (kindIn c) 2 (λ q. omega (arith, q, eqb-true (kindIn c) 1 (sym (input-kind 0 c) ∙ e)))
-
   pub source-no-output : isSource c ≡ true → isOutput c ≡ false
   source-no-output e = output-kind 0 c ∙ ne-eqb (kindIn c) 2 (λ q. omega (arith, q, eqb-true (kindIn c) 1 (sym (source-kind 0 c) ∙ e)))
 

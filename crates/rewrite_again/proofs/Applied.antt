@@ -9,9 +9,7 @@ use lib.Dec.{eqb, ltb}
 use lib.ListN.{length, getD, replicate, length-append, length-replicate, List·getD-eq-default}
 use borrow.Author.Tests.{eqb-false, ltb-true, ltb-false}
 use Rattle.value.specs.declared.Net.{Net}
-use Rattle.value.specs.declared.Slot.{Slot}
-use Rattle.value.specs.declared.Driver.the-variants as driven
-use Rattle.value.specs.Value.{slotAt, driver}
+use Rattle.value.specs.Value.{slotAt}
 use Rattle.cell.specs.declared.Cell.{Cell}
 use Rattle.cell.specs.Records.{cellRecord}
 use Rattle.checking.specs.Checking.{outOfSequence}
