@@ -1,4 +1,4 @@
--- Levels folded in the bit order are the levels of the netlist, where a rank falls along operands. Assumes nothing.
+-- Levels folded in the bit order are the levels of the netlist, where a rank falls along what is read within a tick. Assumes nothing.
 use mathlib.Core.Path.{_≡_, refl, sym, ap, _∙_}
 use mathlib.Core.Bool.{true}
 use mathlib.Core.Logic.{_⊎_, inl, inr}
@@ -12,7 +12,7 @@ use Rattle.logic.specs.declared.Trit.the-variants.{Undef}
 use Rattle.value.specs.declared.Net.{Net}
 use Rattle.cell.specs.declared.Cell.{Cell}
 use Rattle.cell.proofs.Lists.{tabulate-length}
-use Rattle.netlist.specs.Shape.{visit, isInput}
+use Rattle.netlist.specs.Shape.{isSource, combReads}
 use Rattle.netlist.specs.Netlist.{cellIn}
 use Rattle.order.specs.Orders.{bitDeps, topoSort}
 use Rattle.levels.specs.Evaluate.{netLevel, cellLevel, roundOf, levelsIn, levels, givenLevels, outputSlots, outputLevels}
@@ -20,21 +20,22 @@ use Rattle.levels.specs.Fold.{slotLevel, bitLevels, bitOutputs}
 use Rattle.levels.proofs.Given.{given-length}
 use Rattle.order_laws.specs.Ordered.{has}
 use Rattle.order_laws.specs.Members.{All, Drives}
-use Rattle.order_laws.proofs.Bits.{topoSort-each, topoSort-fed, reads-deps}
+use Rattle.order_laws.proofs.Bits.{topoSort-each, topoSort-fed, reads-deps, sourcesLast}
 use Rattle.order_laws.proofs.Truth.{either}
 use Rattle.order_laws.proofs.Members.{all-imp, all-both}
+use Rattle.order_laws.proofs.Operands.{comb-all}
 use Rattle.levels_laws.specs.Algebra.{Ranked}
 use Rattle.levels_laws.specs.Instances.{kleene, LevelsFit}
-use Rattle.levels_laws.proofs.Operands.{value-same, cell-same, input-own}
+use Rattle.levels_laws.proofs.Operands.{value-same, cell-same, source-own}
 use Rattle.levels_laws.proofs.Levels.{net-level, cell-level, levels-only}
 use Rattle.levels_laws.proofs.Ranks.{ranked-falls}
 use Rattle.fold_laws.proofs.Fold.{fold-length, solved}
 
--- an input keeps its level, and a cell's level follows from those of the slots that it reads
-level-own : (v : Net → Trit) (own : Trit) (c : Cell) → isInput c ≡ true → cellLevel v own c ≡ own
-level-own v own c e = cell-level v v (λ n. refl) own c ∙ input-own kleene v own c e
+-- a source keeps its level, and a cell's level follows from those of the slots that it reads within a tick
+level-own : (v : Net → Trit) (own : Trit) (c : Cell) → isSource c ≡ true → cellLevel v own c ≡ own
+level-own v own c e = cell-level v v (λ n. refl) own c ∙ source-own kleene v own c e
 
-level-same : (u v : Net → Trit) (own : Trit) (c : Cell) → All (λ n. u n ≡ v n) (visit c) → cellLevel u own c ≡ cellLevel v own c
+level-same : (u v : Net → Trit) (own : Trit) (c : Cell) → All (λ n. u n ≡ v n) (combReads c) → cellLevel u own c ≡ cellLevel v own c
 level-same u v own c h = cell-level u u (λ n. refl) own c ∙ cell-same kleene u v own c h ∙ sym (cell-level v v (λ n. refl) own c)
 
 net-same : (vs ws : List Trit) (n : Net) → Drives (λ x. getD vs x Undef ≡ getD ws x Undef) n → netLevel vs n ≡ netLevel ws n
@@ -54,26 +55,26 @@ module _ (cs : List Cell) (rank : ℕ → ℕ) (ranked : Ranked cs rank) where
   levelFrom own ls s = cellLevel (netLevel ls) own (cellIn cs s)
 
   local : (own : Trit) (vs ws : List Trit) (s : ℕ) → s < length cs
-      → ((x : ℕ) → x < length cs → (has x (bitDeps cs s) ≡ true) ⊎ (isInput (cellIn cs x) ≡ true) → getD vs x Undef ≡ getD ws x Undef)
+      → ((x : ℕ) → x < length cs → (has x (bitDeps cs s) ≡ true) ⊎ (isSource (cellIn cs x) ≡ true) → getD vs x Undef ≡ getD ws x Undef)
       → levelFrom own vs s ≡ levelFrom own ws s
   unfolding Ranked
   local own vs ws s l h =
       level-same (netLevel vs) (netLevel ws) own (cellIn cs s)
       (all-imp _ (λ n. netLevel vs n ≡ netLevel ws n)
-      (λ n b. net-same vs ws n (λ x e. h (x .0) (b .0 x e .0) (either (isInput (cellIn cs (x .0))) inr (λ i. inl (b .1 x e i)))))
-      (visit (cellIn cs s)) (all-both _ _ (visit (cellIn cs s)) (ranked s l) (reads-deps cs s)))
+      (λ n b. net-same vs ws n (λ x e. h (x .0) (b .0 x e .0) (either (isSource (cellIn cs (x .0))) inr (λ i. inl (b .1 x e i)))))
+      (combReads (cellIn cs s)) (all-both _ _ (combReads (cellIn cs s)) (ranked s l) (comb-all _ (cellIn cs s) (reads-deps cs s))))
 
   module _ (given : List Trit) (wide : length given ≡ length cs) where
     bits-fit : LevelsFit cs given (bitLevels cs given)
     unfolding LevelsFit bitLevels slotLevel
     bits-fit s l =
-        solved Undef levelFrom (length cs) (bitDeps cs) (λ x. isInput (cellIn cs x)) (λ own vs x e. level-own (netLevel vs) own (cellIn cs x) e) local
-        [] (topoSort cs) given (topoSort-each cs .once) (topoSort-fed cs rank (ranked-falls cs rank ranked)) wide s l (topoSort-each cs .all s l)
+        solved Undef levelFrom (length cs) (bitDeps cs) (λ x. isSource (cellIn cs x)) (λ own vs x e. level-own (netLevel vs) own (cellIn cs x) e) local
+        [] (topoSort cs) given (topoSort-each cs .once) (topoSort-fed cs (sourcesLast cs rank) (ranked-falls cs rank ranked)) wide s l (topoSort-each cs .all s l)
 
     bits-length : length (bitLevels cs given) ≡ length cs
     unfolding bitLevels slotLevel
     bits-length =
-        fold-length Undef levelFrom (length cs) (bitDeps cs) (λ x. isInput (cellIn cs x)) (λ own vs x e. level-own (netLevel vs) own (cellIn cs x) e) local
+        fold-length Undef levelFrom (length cs) (bitDeps cs) (λ x. isSource (cellIn cs x)) (λ own vs x e. level-own (netLevel vs) own (cellIn cs x) e) local
         (topoSort cs) given ∙ wide
 
     pub bit-levels : bitLevels cs given ≡ levels cs given

@@ -27,7 +27,7 @@ use Rattle.order_laws.proofs.Truth.{neither}
 use Rattle.order_laws.proofs.Members.{all-imp}
 use Rattle.levels_laws.specs.Algebra.{Ranked}
 use Rattle.kept.proofs.Sound as sound
-use Rattle.kept.proofs.Sound.{NoOutput, Sound}
+use Rattle.kept.proofs.Sound.{Inside, NoOutput, Sound}
 
 zero-if : (u : Use) (x : ℕ) → unusedNotZero u x ≡ false → ZeroIf u x
 zero-if Unused x e = eqb-true x 0 (not-false (eqb x 0) e)
@@ -80,6 +80,11 @@ module _ (rs : List Record) (few : length rs ≤ 65536) (pass : firstOf (netlist
   unfolding Ranked netlistOf
   accepted-ranked s l = passed-ranked rs pass s (inside s l)
 
+  accepted-inside : (s : ℕ) → s < length (netlist .cells) → All (Inside (netlist .cells)) (visit (cellIn (netlist .cells) s))
+  unfolding netlistOf
+  accepted-inside s l =
+      all-imp (Wired (netlist .cells)) (Inside (netlist .cells)) (λ m w x e. w x e .0) (visit (cellIn (netlist .cells) s)) (passed-wired rs pass s (inside s l))
+
   accepted-driven : (s : ℕ) → s < length (netlist .cells) → All (NoOutput (netlist .cells)) (visit (cellIn (netlist .cells) s))
   unfolding netlistOf
   accepted-driven s l =
@@ -96,6 +101,7 @@ module _ (rs : List Record) (few : length rs ≤ 65536) (pass : firstOf (netlist
     wide = netlist-wide ∙ sym netlist-length;
     few = let e : length (netlist .cells) ≡ length rs = netlist-length in omega arith;
     ranked = accepted-ranked;
+    inside = accepted-inside;
     driven = accepted-driven;
     sequence = accepted-sequence;
   }

@@ -35,9 +35,8 @@ use Rattle.order_laws.specs.Members.{All}
 use Rattle.order_laws.proofs.Members.{all-imp}
 use Rattle.order_laws.proofs.Lists.{getD-mapped}
 use Rattle.order_laws.proofs.Sorts.{record-bit}
-use Rattle.levels_laws.specs.Algebra.{Before, Ranked}
 use Rattle.kept.proofs.Sound as sound
-use Rattle.kept.proofs.Sound.{Sound, bit-small}
+use Rattle.kept.proofs.Sound.{Inside, Sound, bit-small}
 use Rattle.kept.proofs.Passing.{encode-length, encode-at, sound-passes}
 
 -- records -> bytes -> records
@@ -167,12 +166,11 @@ Labelled d = (s : ℕ) → s < length (d .cells) → labelOf (cellIn (d .cells) 
 
 module _ (d : Netlist) (rank : ℕ → ℕ) (good : Sound d rank) (labelled : Labelled d) where
   slot-ranged : (s : ℕ) → s < length (d .cells) → Ranged (sound.recordIn d s)
-  unfolding Ranked
   slot-ranged s l =
       let f : length (d .cells) ≤ 65536 = good .few in
       cell-ranged (getD (d .bits) s 0) (cellIn (d .cells) s) (let b : getD (d .bits) s 0 ≤ s = bit-small d rank good s l in omega arith) (labelled s l)
-      (all-imp (Before (d .cells) rank s) (λ n. Small (n .0)) (λ n o. net-small n (λ x e. let i : x .0 < length (d .cells) = o x e .0 in omega arith))
-      (visit (cellIn (d .cells) s)) (good .ranked s l))
+      (all-imp (Inside (d .cells)) (λ n. Small (n .0)) (λ n o. net-small n (λ x e. let i : x .0 < length (d .cells) = o x e in omega arith))
+      (visit (cellIn (d .cells) s)) (good .inside s l))
 
   pub records-back : recordsOf (ticketOf (encode d)) ≡ encode d
   records-back =

@@ -20,20 +20,20 @@ use Rattle.cell.specs.declared.Cell.{Cell}
 use Rattle.cell.specs.declared.Cell.the-variants.{Input}
 use Rattle.cell.specs.Records.{cellRecord}
 use Rattle.checking.specs.Checking.{outOfSequence}
-use Rattle.netlist.specs.Shape.{visit, visitMut, isOutput}
+use Rattle.netlist.specs.Shape.{visit, combReads, visitMut, isOutput}
 use Rattle.netlist.specs.Netlist.{Netlist, cellIn}
 use Rattle.compact.specs.Compact.{keep, isKept, keptSlots, countKept, renumbered, netMap, compact}
 use Rattle.order_laws.specs.Members.{All, Drives}
 use Rattle.order_laws.proofs.Truth.{either}
 use Rattle.order_laws.proofs.Members.{all-imp, all-both}
-use Rattle.order_laws.proofs.Operands.{drives-at, drives-none, visited-all}
+use Rattle.order_laws.proofs.Operands.{comb-all, drives-at, drives-none, visited-all, visited-comb}
 use Rattle.order_laws.proofs.Lists.{getD-mapped}
 use Rattle.order_laws.proofs.Sorts.{record-bit, output-mapped}
 use Rattle.levels_laws.specs.Algebra.{Algebra, netValue, cellValue, Fits, Before, Ranked}
 use Rattle.levels_laws.proofs.Operands.{value-const, value-slot, cell-same, cell-visitMut}
 use Rattle.kept.proofs.Chosen.{chosen, count, count-yes, count-le, PlaceOf, place-of, SlotAt, slot-at}
 use Rattle.kept.proofs.Records.{Continues, sequence-zero, sequence-more, continues-mapped}
-use Rattle.kept.proofs.Sound.{recordIn, NoOutput, Sound, Inner, inner, bit-continues}
+use Rattle.kept.proofs.Sound.{recordIn, Inside, NoOutput, Sound, Inner, inner, bit-continues}
 use Rattle.kept.proofs.Keep.{KeptNet, reads-kept}
 
 module _ (d : Netlist) (rank : ℕ → ℕ) (sound : Sound d rank) where
@@ -83,32 +83,31 @@ module _ (d : Netlist) (rank : ℕ → ℕ) (sound : Sound d rank) where
       ap (λ y. driver (renumbered (d .bits) (keep d) m y)) e
       ∙ driver-cell (slotAt (count kept (x .0))) (let f : total ≤ 65536 = sound .few in let c : count kept (x .0) ≤ x .0 = count-le kept (x .0) in omega arith)
 
-  abbrev Operand : ℕ → Net → Type 0
-  Operand s m = Before (d .cells) rank s m × KeptNet d rank sound m
+  abbrev Operand : Net → Type 0
+  Operand m = Inside (d .cells) m × KeptNet d rank sound m
 
-  operands : (s : ℕ) → s < total → kept s ≡ true → All (Operand s) (visit (cellIn (d .cells) s))
-  unfolding Ranked
-  operands s l k = all-both (Before (d .cells) rank s) (KeptNet d rank sound) (visit (cellIn (d .cells) s)) (sound .ranked s l) (reads-kept d rank sound s l k)
+  operands : (s : ℕ) → s < total → kept s ≡ true → All Operand (visit (cellIn (d .cells) s))
+  operands s l k = all-both (Inside (d .cells)) (KeptNet d rank sound) (visit (cellIn (d .cells) s)) (sound .inside s l) (reads-kept d rank sound s l k)
 
   -- what holds of the new slot of each operand
-  mapped-has : (Q : ℕ → Type 0) (s : ℕ) (m : Net) → Operand s m → Drives (λ x. Q (count kept x)) m → Drives Q (mapped m)
-  mapped-has Q s m o h = go (driver m) refl
+  mapped-has : (Q : ℕ → Type 0) (m : Net) → Operand m → Drives (λ x. Q (count kept x)) m → Drives Q (mapped m)
+  mapped-has Q m o h = go (driver m) refl
     where
       go : (r : Driver) → driver m ≡ r → Drives Q (mapped m)
       go (driven.Const t) q = drives-none Q (mapped m) t (mapped-const m t q)
-      go (driven.Cell x) q = drives-at Q (mapped m) (slotAt (count kept (x .0))) (mapped-slot m x q (o .0 x q .0)) (h x q)
+      go (driven.Cell x) q = drives-at Q (mapped m) (slotAt (count kept (x .0))) (mapped-slot m x q (o .0 x q)) (h x q)
 
   -- a valuation goes along
   module _ {A : Type 0} (alg : Algebra A) (v : ℕ → A) where
-    mapped-value : (s : ℕ) (m : Net) → Operand s m → netValue alg v m ≡ netValue alg (λ j. v (old j)) (mapped m)
-    mapped-value s m o = go (driver m) refl
+    mapped-value : (m : Net) → Operand m → netValue alg v m ≡ netValue alg (λ j. v (old j)) (mapped m)
+    mapped-value m o = go (driver m) refl
       where
         go : (r : Driver) → driver m ≡ r → netValue alg v m ≡ netValue alg (λ j. v (old j)) (mapped m)
         go (driven.Const t) q = value-const alg v m t q ∙ sym (value-const alg (λ j. v (old j)) (mapped m) t (mapped-const m t q))
         go (driven.Cell x) q =
             value-slot alg v m x q
-            ∙ ap v (sym (place-of kept total (x .0) (o .0 x q .0) (o .1 x q) .at))
-            ∙ sym (value-slot alg (λ j. v (old j)) (mapped m) (slotAt (count kept (x .0))) (mapped-slot m x q (o .0 x q .0)))
+            ∙ ap v (sym (place-of kept total (x .0) (o .0 x q) (o .1 x q) .at))
+            ∙ sym (value-slot alg (λ j. v (old j)) (mapped m) (slotAt (count kept (x .0))) (mapped-slot m x q (o .0 x q)))
 
     pub compact-fits : (own : ℕ → A) → Fits alg own (d .cells) v → Fits alg (λ j. own (old j)) (compact d .cells) (λ j. v (old j))
     unfolding Fits
@@ -118,8 +117,9 @@ module _ (d : Netlist) (rank : ℕ → ℕ) (sound : Sound d rank) where
         let v′ : ℕ → A = λ j. v (old j) in
         f (old j) (s .small)
         ∙ cell-same alg (netValue alg v) (λ m. netValue alg v′ (mapped m)) (own (old j)) (cellIn (d .cells) (old j))
-        (all-imp (Operand (old j)) (λ m. netValue alg v m ≡ netValue alg v′ (mapped m)) (mapped-value (old j)) (visit (cellIn (d .cells) (old j)))
-        (operands (old j) (s .small) (s .passes)))
+        (comb-all _ (cellIn (d .cells) (old j))
+        (all-imp Operand (λ m. netValue alg v m ≡ netValue alg v′ (mapped m)) mapped-value (visit (cellIn (d .cells) (old j)))
+        (operands (old j) (s .small) (s .passes))))
         ∙ sym (cell-visitMut alg (netValue alg v′) mapped (own (old j)) (cellIn (d .cells) (old j)))
         ∙ ap (cellValue alg (netValue alg v′) (own (old j))) (sym (cell-at j k))
 
@@ -140,19 +140,33 @@ module _ (d : Netlist) (rank : ℕ → ℕ) (sound : Sound d rank) where
   place-old : (x : ℕ) → x < total → kept x ≡ true → old (count kept x) ≡ x
   place-old x l k = place-of kept total x l k .at
 
+  place-inside : (x : ℕ) → x < total → kept x ≡ true → count kept x < length (compact d .cells)
+  place-inside x l k = let e : length (compact d .cells) ≡ count kept total = compact-length in omega (arith, place-of kept total x l k .below)
+
   compact-ranked : Ranked (compact d .cells) (λ j. rank (old j))
   unfolding Ranked
   compact-ranked j l =
       let k : j < count kept total = new-inside j l in
       let s : SlotAt kept total j = slot-at kept total j k in
-      visits (Before (compact d .cells) (λ j. rank (old j)) j) j k
-      (all-imp (Operand (old j)) (λ m. Before (compact d .cells) (λ j. rank (old j)) j (mapped m))
-      (λ m o. mapped-has (λ y. (y < length (compact d .cells)) × (rank (old y) < rank (old j))) (old j) m o
-      (λ x q. (
-        (let p : count kept (x .0) < count kept total = place-of kept total (x .0) (o .0 x q .0) (o .1 x q) .below in
-            let e : length (compact d .cells) ≡ count kept total = compact-length in omega arith),
-        subst (λ (i : ℕ). rank i < rank (old j)) (sym (place-old (x .0) (o .0 x q .0) (o .1 x q))) (o .0 x q .1),
-      )))
+      let c : Cell = cellIn (d .cells) (old j) in
+      let New : Net → Type 0 = Before (compact d .cells) (λ j. rank (old j)) j in
+      subst (λ (x : Cell). All New (combReads x)) (sym (cell-at j k))
+      (visited-comb New mapped c
+      (all-imp (λ m. Operand m × Before (d .cells) rank (old j) m) (λ m. New (mapped m))
+      (λ m o. mapped-has (λ y. (y < length (compact d .cells)) × (rank (old y) < rank (old j))) m (o .0)
+      (λ x q.
+      let i : x .0 < total = o .0 .0 x q in
+      (place-inside (x .0) i (o .0 .1 x q), subst (λ (y : ℕ). rank y < rank (old j)) (sym (place-old (x .0) i (o .0 .1 x q))) (o .1 x q .1))))
+      (combReads c)
+      (all-both Operand (Before (d .cells) rank (old j)) (combReads c) (comb-all Operand c (operands (old j) (s .small) (s .passes))) (sound .ranked (old j) (s .small)))))
+
+  compact-inside : (j : ℕ) → j < length (compact d .cells) → All (Inside (compact d .cells)) (visit (cellIn (compact d .cells) j))
+  compact-inside j l =
+      let k : j < count kept total = new-inside j l in
+      let s : SlotAt kept total j = slot-at kept total j k in
+      visits (Inside (compact d .cells)) j k
+      (all-imp Operand (λ m. Inside (compact d .cells) (mapped m))
+      (λ m o. mapped-has (λ y. y < length (compact d .cells)) m o (λ x q. place-inside (x .0) (o .0 x q) (o .1 x q)))
       (visit (cellIn (d .cells) (old j))) (operands (old j) (s .small) (s .passes)))
 
   compact-driven : (j : ℕ) → j < length (compact d .cells) → All (NoOutput (compact d .cells)) (visit (cellIn (compact d .cells) j))
@@ -161,16 +175,16 @@ module _ (d : Netlist) (rank : ℕ → ℕ) (sound : Sound d rank) where
       let s : SlotAt kept total j = slot-at kept total j k in
       let cs : List Cell = compact d .cells in
       visits (NoOutput cs) j k
-      (all-imp (λ m. Operand (old j) m × NoOutput (d .cells) m) (λ m. NoOutput cs (mapped m))
-      (λ m o. mapped-has (λ y. isOutput (cellIn cs y) ≡ false) (old j) m (o .0)
+      (all-imp (λ m. Operand m × NoOutput (d .cells) m) (λ m. NoOutput cs (mapped m))
+      (λ m o. mapped-has (λ y. isOutput (cellIn cs y) ≡ false) m (o .0)
       (λ x q.
-      let i : x .0 < total = o .0 .0 x q .0 in
+      let i : x .0 < total = o .0 .0 x q in
       ap isOutput (cell-at (count kept (x .0)) (place-of kept total (x .0) i (o .0 .1 x q) .below))
       ∙ output-mapped mapped (cellIn (d .cells) (old (count kept (x .0))))
       ∙ ap (λ (y : ℕ). isOutput (cellIn (d .cells) y)) (place-old (x .0) i (o .0 .1 x q))
       ∙ o .1 x q))
       (visit (cellIn (d .cells) (old j)))
-      (all-both (Operand (old j)) (NoOutput (d .cells)) (visit (cellIn (d .cells) (old j))) (operands (old j) (s .small) (s .passes)) (sound .driven (old j) (s .small))))
+      (all-both Operand (NoOutput (d .cells)) (visit (cellIn (d .cells) (old j))) (operands (old j) (s .small) (s .passes)) (sound .driven (old j) (s .small))))
 
   -- the record of a kept slot
   abbrev newRecord : ℕ → Record
@@ -218,6 +232,7 @@ module _ (d : Netlist) (rank : ℕ → ℕ) (sound : Sound d rank) where
     wide = ap length compact-bits ∙ length-map (chosen kept total) (λ s. getD (d .bits) s 0) ∙ sym compact-length;
     few = let e : length (compact d .cells) ≡ count kept total = compact-length in let f : total ≤ 65536 = sound .few in omega (arith, count-le kept total);
     ranked = compact-ranked;
+    inside = compact-inside;
     driven = compact-driven;
     sequence = compact-sequence;
   }

@@ -18,8 +18,7 @@ use Rattle.order_laws.proofs.Members.{has-slots, all-imp, all-both, has-passing
 use Rattle.order_laws.proofs.Lists.{getD-any}
 use Rattle.order_laws.proofs.Operands.{all-sources, all-deps}
 use Rattle.order_laws.proofs.Sorts.{effects-by}
-use Rattle.levels_laws.specs.Algebra.{Before, Ranked}
-use Rattle.kept.proofs.Sound.{Sound, start-inside, start-zero, start-kind, start-has, same-by}
+use Rattle.kept.proofs.Sound.{Inside, Sound, start-inside, start-zero, start-kind, start-has, same-by}
 
 module _ (d : Netlist) (rank : ℕ → ℕ) (sound : Sound d rank) where
   abbrev roots : List ℕ
@@ -73,14 +72,13 @@ module _ (d : Netlist) (rank : ℕ → ℕ) (sound : Sound d rank) where
   KeptNet = Drives (λ x. kept x ≡ true)
 
   pub reads-kept : (s : ℕ) → s < length (d .cells) → kept s ≡ true → All KeptNet (visit (cellIn (d .cells) s))
-  unfolding Ranked
   reads-kept s l h =
       let P : Net → Type 0 = Drives (λ x. x < length (d .cells) → kept x ≡ true) in
-      all-imp (λ m. P m × Before (d .cells) rank s m) KeptNet (λ m a x e. a .0 x e (a .1 x e .0)) (visit (cellIn (d .cells) s))
-      (all-both P (Before (d .cells) rank s) (visit (cellIn (d .cells) s))
+      all-imp (λ m. P m × Inside (d .cells) m) KeptNet (λ m a x e. a .0 x e (a .1 x e)) (visit (cellIn (d .cells) s))
+      (all-both P (Inside (d .cells)) (visit (cellIn (d .cells) s))
       (all-sources (λ x. x < length (d .cells) → kept x ≡ true) (visit (cellIn (d .cells) s))
       (λ x k m. dep-marked (startOf (d .bits) s) (startOf (d .bits) x) (start-inside d rank sound s l) (omega arith) h (dep-has s x l m k)))
-      (sound .ranked s l))
+      (sound .inside s l))
 
 -- what holds of the start of each input and output and, with a cell, of the start of each that it reads, holds of all that is marked
 pub marked-has : (d : Netlist) (P : ℕ → Type 0)

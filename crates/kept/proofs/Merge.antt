@@ -16,7 +16,7 @@ use Rattle.value.proofs.Laws.{driver-cell}
 use Rattle.cell.specs.declared.Cell.{Cell}
 use Rattle.cell.specs.declared.Cell.the-variants.{Input, Output, Buf, Not, And, Or, Xor, Mux, Aig}
 use Rattle.cell.proofs.Lists.{tabulate-length, tabulate-at}
-use Rattle.netlist.specs.Shape.{visit, visitMut, isInput, isOutput, hasEffects}
+use Rattle.netlist.specs.Shape.{visit, visitMut, isOutput, hasEffects}
 use Rattle.netlist.specs.Netlist.{Netlist, cellIn, those, outputOf}
 use Rattle.order.specs.Orders.{iterCellsTopo}
 use Rattle.design.specs.declared.Found.{Found}
@@ -26,8 +26,8 @@ use Rattle.merge.specs.Merge.{keyOf, Merging, findOrInsert, findOrInsertAll, me
 use Rattle.order_laws.specs.Members.{All, Wired}
 use Rattle.order_laws.proofs.Truth.{either}
 use Rattle.order_laws.proofs.Members.{all-imp, all-map, all-append, those-pass}
-use Rattle.order_laws.proofs.Sorts.{input-mapped, effects-by, gate-inside, gate-parts}
-use Rattle.order_laws.proofs.Operands.{drives-in}
+use Rattle.order_laws.proofs.Sorts.{source-mapped, effects-by, gate-inside, gate-other, gate-parts}
+use Rattle.order_laws.proofs.Operands.{comb-all, drives-in}
 use Rattle.order_laws.proofs.Queue.{mapped-keeps, replacement, seek-finds}
 use Rattle.levels_laws.specs.Algebra.{Algebra, netValue, controlValue, cellValue, Fits}
 use Rattle.levels_laws.proofs.Operands.{value-slot, cell-same, cell-visitMut, cell-own}
@@ -94,8 +94,9 @@ module _ (d : Netlist) (rank : ℕ → ℕ) (sound : Sound d rank) where
       mapped-value s l =
           cell-visitMut alg (netValue alg v) (mapNetNew rs) (own s) (cellIn (d .cells) s)
           ∙ cell-same alg (λ m. netValue alg v (mapNetNew rs m)) (netValue alg v) (own s) (cellIn (d .cells) s)
+          (comb-all _ (cellIn (d .cells) s)
           (all-imp (λ m. Stands (netValue alg v m) (mapNetNew rs m)) (λ m. netValue alg v (mapNetNew rs m) ≡ netValue alg v m) (λ m h. h .value)
-          (visit (cellIn (d .cells) s)) (operands-stand s l))
+          (visit (cellIn (d .cells) s)) (operands-stand s l)))
           ∙ sym (fits s l)
 
     -- an entry of the numberer: its net has the value of its cell
@@ -164,13 +165,12 @@ module _ (d : Netlist) (rank : ℕ → ℕ) (sound : Sound d rank) where
         (all-map (λ i. (key i, i)) Keyed (outputOf (d .bits) s)
         (all-imp (Bit d rank sound s) (λ i. Keyed (key i, i))
         (λ i b.
-        let n : (isInput (cellIn (d .cells) i) ≡ false) × (isOutput (cellIn (d .cells) i) ≡ false) =
-        gate-parts (cellIn (d .cells) i) (same-by d rank sound effects-by s i (b .kind) ∙ e) in
+        let g : hasEffects (cellIn (d .cells) i) ≡ false = same-by d rank sound effects-by s i (b .kind) ∙ e in
         record {
           inside = b .inside;
-          inner = n .1;
+          inner = gate-parts (cellIn (d .cells) i) g .1;
           value = λ o. key-value alg (netValue alg v) o (visitMut (mapNetNew rs) (cellIn (d .cells) i))
-              ∙ cell-own alg (netValue alg v) o (own i) (visitMut (mapNetNew rs) (cellIn (d .cells) i)) (input-mapped (mapNetNew rs) (cellIn (d .cells) i) ∙ n .0)
+              ∙ cell-own alg (netValue alg v) o (own i) (visitMut (mapNetNew rs) (cellIn (d .cells) i)) (source-mapped (mapNetNew rs) (cellIn (d .cells) i) ∙ gate-other (cellIn (d .cells) i) g)
               ∙ mapped-value rs (h .replaces) i (b .inside);
         })
         (outputOf (d .bits) s) (output-bits d rank sound s l)))

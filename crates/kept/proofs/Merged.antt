@@ -14,14 +14,14 @@ use Rattle.cell.specs.declared.Cell.{Cell}
 use Rattle.cell.specs.declared.Cell.the-variants.{Input}
 use Rattle.cell.specs.Records.{cellRecord}
 use Rattle.checking.specs.Checking.{outOfSequence}
-use Rattle.netlist.specs.Shape.{visit, visitMut, isInput, isOutput}
+use Rattle.netlist.specs.Shape.{visit, combReads, visitMut, isInput, isOutput}
 use Rattle.netlist.specs.Netlist.{Netlist, cellIn, slots, those}
 use Rattle.design.specs.Queue.{mapNetNew, applied}
 use Rattle.merge.specs.Merge.{merging, mergedNetlist, merge}
 use Rattle.levels.specs.Evaluate.{levels, givenLevels, inputSlots, outputSlots, outputLevels}
 use Rattle.order_laws.specs.Members.{All}
 use Rattle.order_laws.proofs.Members.{all-imp, all-both, all-tabulate, all-those, those-same}
-use Rattle.order_laws.proofs.Operands.{visited-all}
+use Rattle.order_laws.proofs.Operands.{comb-all, visited-all, visited-comb}
 use Rattle.order_laws.proofs.Lists.{getD-mapped, map-same}
 use Rattle.order_laws.proofs.Sorts.{input-mapped, output-mapped}
 use Rattle.levels_laws.specs.Algebra.{Algebra, netValue, cellValue, Fits, Before, Ranked}
@@ -30,7 +30,7 @@ use Rattle.levels_laws.proofs.Operands.{value-slot}
 use Rattle.levels_laws.proofs.Valuations.{unique}
 use Rattle.levels_laws.proofs.Levels.{levels-fit, sizes-fit, size-grows}
 use Rattle.kept.proofs.Records.{sequence-mapped}
-use Rattle.kept.proofs.Sound.{recordIn, NoOutput, Sound}
+use Rattle.kept.proofs.Sound.{recordIn, Inside, NoOutput, Sound}
 use Rattle.kept.proofs.Compact.{old, compact-each, compact-shorter, compact-sound}
 use Rattle.kept.proofs.Outputs.{compact-inputs, compact-keeps-levels}
 use Rattle.kept.proofs.Merge.{Stands, operands-stand, mapped-value, merging-cells, merging-replaces}
@@ -80,28 +80,33 @@ module _ (d : Netlist) (rank : ℕ → ℕ) (sound : Sound d rank) where
         sym (mapped-value d rank sound alg own v fits (merging d .replaced) (merging-replaces d rank sound alg own v fits) s (inside s l))
         ∙ ap (cellValue alg (netValue alg v) (own s)) (sym (cell-at s (inside s l)))
 
-  -- what each operand of a slot stands for, and its size
-  abbrev Operand : ℕ → Net → Type 0
-  Operand s m = Stands d rank sound size (λ s. 0) sizes sized (netValue size sizes m) (mapped m) × (netValue size sizes m < sizes s)
+  -- what each operand of a slot stands for, and its size if it is read within a tick
+  abbrev Operand : Net → Type 0
+  Operand m = Stands d rank sound size (λ s. 0) sizes sized (netValue size sizes m) (mapped m)
 
-  operands : (s : ℕ) → s < total → All (Operand s) (visit (cellIn (d .cells) s))
+  operands : (s : ℕ) → s < total → All Operand (visit (cellIn (d .cells) s))
+  operands = operands-stand d rank sound size (λ s. 0) sizes sized (merging d .replaced) (merging-replaces d rank sound size (λ s. 0) sizes sized)
+
+  smaller : (s : ℕ) → s < total → All (λ m. netValue size sizes m < sizes s) (combReads (cellIn (d .cells) s))
   unfolding Fits
-  operands s l =
-      all-both (λ m. Stands d rank sound size (λ s. 0) sizes sized (netValue size sizes m) (mapped m)) (λ m. netValue size sizes m < sizes s) (visit (cellIn (d .cells) s))
-      (operands-stand d rank sound size (λ s. 0) sizes sized (merging d .replaced) (merging-replaces d rank sound size (λ s. 0) sizes sized) s l)
-      (all-imp (λ m. netValue size sizes m < cellValue size (netValue size sizes) 0 (cellIn (d .cells) s)) (λ m. netValue size sizes m < sizes s)
+  smaller s l =
+      all-imp (λ m. netValue size sizes m < cellValue size (netValue size sizes) 0 (cellIn (d .cells) s)) (λ m. netValue size sizes m < sizes s)
       (λ m h. subst (λ (k : ℕ). netValue size sizes m < k) (sym (sized s l)) h)
-      (visit (cellIn (d .cells) s)) (size-grows (netValue size sizes) 0 (cellIn (d .cells) s)))
+      (combReads (cellIn (d .cells) s)) (size-grows (netValue size sizes) 0 (cellIn (d .cells) s))
 
-  visits : (P : Net → Type 0) (s : ℕ) → s < total → ((m : Net) → Operand s m → P (mapped m)) → All P (visit (cellIn (rewired .cells) s))
+  visits : (P : Net → Type 0) (s : ℕ) → s < total → ((m : Net) → Operand m → P (mapped m)) → All P (visit (cellIn (rewired .cells) s))
   visits P s l h =
       subst (λ (c : Cell). All P (visit c)) (sym (cell-at s l))
-      (visited-all P mapped (cellIn (d .cells) s) (all-imp (Operand s) (λ m. P (mapped m)) h (visit (cellIn (d .cells) s)) (operands s l)))
+      (visited-all P mapped (cellIn (d .cells) s) (all-imp Operand (λ m. P (mapped m)) h (visit (cellIn (d .cells) s)) (operands s l)))
 
   rewired-ranked : Ranked (rewired .cells) sizes
   unfolding Ranked
   rewired-ranked s l =
-      visits (Before (rewired .cells) sizes s) s (inside s l)
+      let c : Cell = cellIn (d .cells) s in
+      let New : Net → Type 0 = Before (rewired .cells) sizes s in
+      subst (λ (y : Cell). All New (combReads y)) (sym (cell-at s (inside s l)))
+      (visited-comb New mapped c
+      (all-imp (λ m. Operand m × (netValue size sizes m < sizes s)) (λ m. New (mapped m))
       (λ m o x e.
       let in₁ : x .0 < total = o .0 .driven x e .0 in
       let n : length (rewired .cells) ≡ total = rewired-length in
@@ -109,11 +114,18 @@ module _ (d : Netlist) (rank : ℕ → ℕ) (sound : Sound d rank) where
       let r : netValue size sizes (mapped m) ≡ netValue size sizes m = o .0 .value in
       let t : netValue size sizes m < sizes s = o .1 in
       (omega arith, subst (λ (k : ℕ). k < sizes s) (sym r ∙ q) t))
+      (combReads c)
+      (all-both Operand (λ m. netValue size sizes m < sizes s) (combReads c) (comb-all Operand c (operands s (inside s l))) (smaller s (inside s l)))))
+
+  rewired-inside : (s : ℕ) → s < length (rewired .cells) → All (Inside (rewired .cells)) (visit (cellIn (rewired .cells) s))
+  rewired-inside s l =
+      visits (Inside (rewired .cells)) s (inside s l)
+      (λ m o x e. let i : x .0 < total = o .driven x e .0 in let n : length (rewired .cells) ≡ total = rewired-length in omega arith)
 
   rewired-driven : (s : ℕ) → s < length (rewired .cells) → All (NoOutput (rewired .cells)) (visit (cellIn (rewired .cells) s))
   rewired-driven s l =
       visits (NoOutput (rewired .cells)) s (inside s l)
-      (λ m o x e. ap isOutput (cell-at (x .0) (o .0 .driven x e .0)) ∙ output-mapped mapped (cellIn (d .cells) (x .0)) ∙ o .0 .driven x e .1)
+      (λ m o x e. ap isOutput (cell-at (x .0) (o .driven x e .0)) ∙ output-mapped mapped (cellIn (d .cells) (x .0)) ∙ o .driven x e .1)
 
   rewired-sequence : (s : ℕ) → s < length (rewired .cells) → outOfSequence s (recordIn rewired (s - 1)) (recordIn rewired s) ≡ false
   rewired-sequence s l =
@@ -126,6 +138,7 @@ module _ (d : Netlist) (rank : ℕ → ℕ) (sound : Sound d rank) where
     wide = sound .wide ∙ sym rewired-length;
     few = let n : length (rewired .cells) ≡ total = rewired-length in let f : total ≤ 65536 = sound .few in omega arith;
     ranked = rewired-ranked;
+    inside = rewired-inside;
     driven = rewired-driven;
     sequence = rewired-sequence;
   }

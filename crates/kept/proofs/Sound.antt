@@ -21,11 +21,15 @@ use Rattle.order_laws.specs.Members.{All, Drives, Wired}
 use Rattle.order_laws.proofs.Members.{has-tabulate, all-tabulate, all-both, all-imp}
 use Rattle.order_laws.proofs.Sorts.{record-bit, ByKind, same-sort}
 use Rattle.order_laws.proofs.Lists.{getD-inside}
-use Rattle.levels_laws.specs.Algebra.{Ranked, Before}
+use Rattle.levels_laws.specs.Algebra.{Ranked}
 use Rattle.kept.proofs.Records.{Continues, continues}
 
 abbrev pub recordIn : Netlist → ℕ → Record
 recordIn d s = cellRecord (getD (d .bits) s 0) (cellIn (d .cells) s)
+
+-- a net that a slot of the netlist drives, or a constant
+abbrev pub Inside : List Cell → Net → Type 0
+Inside cs = Drives (λ x. x < length cs)
 
 -- a net that no output drives
 abbrev pub NoOutput : List Cell → Net → Type 0
@@ -34,7 +38,8 @@ NoOutput cs = Drives (λ x. isOutput (cellIn cs x) ≡ false)
 pub record Sound (d : Netlist) (rank : ℕ → ℕ) : Type 0 where
   pub wide : length (d .bits) ≡ length (d .cells)
   pub few : length (d .cells) ≤ 65536  -- so that each slot has a net, and each bit number 16 bits
-  pub ranked : Ranked (d .cells) rank
+  pub ranked : Ranked (d .cells) rank  -- of what is read within a tick; the next two of all that is read
+  pub inside : (s : ℕ) → s < length (d .cells) → All (Inside (d .cells)) (visit (cellIn (d .cells) s))
   pub driven : (s : ℕ) → s < length (d .cells) → All (NoOutput (d .cells)) (visit (cellIn (d .cells) s))
   pub sequence : (s : ℕ) → s < length (d .cells) → outOfSequence s (recordIn d (s - 1)) (recordIn d s) ≡ false
 
@@ -168,16 +173,12 @@ module _ (d : Netlist) (rank : ℕ → ℕ) (sound : Sound d rank) where
   pub same-by : {sort : Cell → Bool} → ByKind sort → (s i : ℕ) → recordIn d i .kind ≡ recordIn d s .kind → sort (cellIn (d .cells) i) ≡ sort (cellIn (d .cells) s)
   same-by by s i e = same-sort by (bitAt i) (bitAt s) (cellIn (d .cells) i) (cellIn (d .cells) s) e
 
-  -- each operand is driven by a slot of lower rank that is no output
-  pub sound-operands : (s : ℕ) → s < length (d .cells) → All (λ n. Before (d .cells) rank s n × NoOutput (d .cells) n) (visit (cellIn (d .cells) s))
-  unfolding Ranked
-  sound-operands s l =
-      all-both (Before (d .cells) rank s) (NoOutput (d .cells)) (visit (cellIn (d .cells) s)) (sound .ranked s l) (sound .driven s l)
-
+  -- each operand is driven by a slot that is no output
   pub sound-wired : (s : ℕ) → s < length (d .cells) → All (Wired (d .cells)) (visit (cellIn (d .cells) s))
   sound-wired s l =
-      all-imp (λ n. Before (d .cells) rank s n × NoOutput (d .cells) n) (Wired (d .cells)) (λ n o x e. (o .0 x e .0, o .1 x e)) (visit (cellIn (d .cells) s))
-      (sound-operands s l)
+      let ns : List Net = visit (cellIn (d .cells) s) in
+      all-imp (λ n. Inside (d .cells) n × NoOutput (d .cells) n) (Wired (d .cells)) (λ n o x e. (o .0 x e, o .1 x e)) ns
+      (all-both (Inside (d .cells)) (NoOutput (d .cells)) ns (sound .inside s l) (sound .driven s l))
 
 -- the bits of the cell that starts at a slot are numbered from there, and each has its start there
 module _ (d : Netlist) (rank : ℕ → ℕ) (sound : Sound d rank) (s : ℕ) (first : getD (d .bits) s 0 ≡ 0) where

@@ -6,7 +6,7 @@ use native.Mathlib.Omega.{arith}
 use lib.Dec.{eqb, leb}
 use borrow.Author.Tests.{lt-leb, ne-eqb}
 use Rattle.kinds.specs.declared.Sort.{Sort}
-use Rattle.kinds.specs.Kinds.{sortOf, kindTable, kindOf, isOperandUse, isUsed, commutes}
+use Rattle.kinds.specs.Kinds.{sortOf, kindTable, kindOf, isOperandUse, isUsed, commutes, isSourceSort}
 use Rattle.kinds.proofs.Laws.{rowsAgree, by-row}
 
 -- a range, and a single number, that end below 10
@@ -50,3 +50,7 @@ pub commutes-is : (k : ℕ) → (leb 5 k && leb k 7) || eqb k 9 ≡ commutes (so
 unfolding rowsAgree
 commutes-is =
     by-row (λ k. (leb 5 k && leb k 7) || eqb k 9) commutes tt (λ k l. rw (past-range 5 7 k (omega arith) l) (past-one 9 k (omega arith) l))
+
+pub is-source-is : (k : ℕ) → eqb k 1 ≡ isSourceSort (sortOf k)
+unfolding rowsAgree
+is-source-is = by-row (λ k. eqb k 1) isSourceSort tt (λ k l. past-one 1 k (omega arith) l)

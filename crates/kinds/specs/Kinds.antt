@@ -90,3 +90,16 @@ commutes Or = true
 commutes Xor = true
 commutes Mux = false
 commutes Aig = true
+
+-- a source: its level is given, and nothing that it reads decides it (design.rs, `is_comb_edge`)
+abbrev pub isSourceSort : Sort → Bool
+isSourceSort Unknown = false
+isSourceSort Input = true
+isSourceSort Output = false
+isSourceSort Buf = false
+isSourceSort Not = false
+isSourceSort And = false
+isSourceSort Or = false
+isSourceSort Xor = false
+isSourceSort Mux = false
+isSourceSort Aig = false

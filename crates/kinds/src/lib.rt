@@ -5,7 +5,7 @@ use logic::either;
 ghost use mathlib.Core.Path.{_≡_};
 ghost use mathlib.Core.Bool.{not};
 ghost use lib.Dec.{eqb};
-ghost use Rattle.kinds.specs.Kinds.{sortOf, rowOf, kindTable, kindOf, useOf, isOperandUse, isUsed, commutes};
+ghost use Rattle.kinds.specs.Kinds.{sortOf, rowOf, kindTable, kindOf, useOf, isOperandUse, isUsed, commutes, isSourceSort};
 
 // What a kind keeps in a field: nothing (the field is 0), a label, or an operand, which is a net.
 pub enum Use {
@@ -193,4 +193,11 @@ pub fn operands_commute(kind: u8) -> bool
     ensures { λ r. ⌜ r ≡ commutes (sortOf kind) ⌝ }
 {
     either(both(5 <= kind, kind <= 7), kind == 9)
+}
+
+// Whether the level of the cell is given.
+pub fn is_source(kind: u8) -> bool
+    ensures { λ r. ⌜ r ≡ isSourceSort (sortOf kind) ⌝ }
+{
+    kind == 1
 }

@@ -30,7 +30,7 @@ abbrev pub controlLevel : (Net → Trit) → ControlNet → Trit
 controlLevel v (Pos n) = v n
 controlLevel v (Neg n) = notLevel (v n)
 
--- the level of a cell, given the levels of nets and, for an input, its own
+-- the level of a cell, given the levels of nets and, for a source, its own
 unfoldable pub cellLevel : (Net → Trit) → Trit → Cell → Trit
 cellLevel v own (Input l) = own
 cellLevel v own (Output a l) = v a

@@ -43,11 +43,11 @@ unfoldable pub foldIn : {A : Type 0} → (List A → ℕ → A) → List ℕ →
 foldIn f [] vs = vs
 foldIn f (s ∷ ss) vs = foldIn f ss (set vs s (f vs s))
 
--- a slot's level from those so far; an input keeps its own
+-- a slot's level from those so far; a source keeps its own
 unfoldable pub slotLevel : List Cell → List Trit → ℕ → Trit
 slotLevel cs ls s = cellLevel (netLevel ls) (getD ls s Undef) (cellIn cs s)
 
--- the levels of all slots, in the bit order, from those of the inputs
+-- the levels of all slots, in the bit order, from those of the sources
 unfoldable pub bitLevels : List Cell → List Trit → List Trit
 bitLevels cs given = foldIn (slotLevel cs) (topoSort cs) given
 

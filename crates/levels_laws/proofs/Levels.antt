@@ -15,7 +15,7 @@ use Rattle.value.specs.Value.{driver, net}
 use Rattle.cell.specs.declared.Cell.{Cell}
 use Rattle.cell.specs.declared.Cell.the-variants.{Input, Output, Buf, Not, And, Or, Xor, Mux, Aig}
 use Rattle.cell.proofs.Lists.{tabulate-at}
-use Rattle.netlist.specs.Shape.{visit}
+use Rattle.netlist.specs.Shape.{visit, combReads}
 use Rattle.netlist.specs.Netlist.{cellIn}
 use Rattle.levels.specs.Evaluate.{netLevel, drivenLevel, controlLevel, cellLevel, roundOf, levelsIn, levels}
 use Rattle.order_laws.specs.Members.{All}
@@ -88,9 +88,9 @@ control-grows : (v : Net → ℕ) (p : ControlNet) → v (net p) ≤ controlValu
 control-grows v (Pos n) = omega arith
 control-grows v (Neg n) = omega arith
 
--- a cell's size is above its operands'
-pub size-grows : (v : Net → ℕ) (own : ℕ) (c : Cell) → All (λ n. v n < cellValue size v own c) (visit c)
-unfolding All visit cellValue
+-- a cell's size is above those of the nets that it reads within a tick
+pub size-grows : (v : Net → ℕ) (own : ℕ) (c : Cell) → All (λ n. v n < cellValue size v own c) (combReads c)
+unfolding All visit combReads cellValue
 size-grows v own (Input l) = tt
 size-grows v own (Output a l) = (omega arith, tt)
 size-grows v own (Buf a) = (omega arith, tt)

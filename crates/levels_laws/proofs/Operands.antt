@@ -1,4 +1,4 @@
--- Operands of a cell: a cell's value follows from those of its operands. Assumes nothing.
+-- Operands of a cell: a cell's value follows from those of the nets that it reads within a tick. Assumes nothing.
 use mathlib.Core.Path.{_≡_, refl, sym, ap, ap₂, _∙_}
 use mathlib.Core.Bool.{false, true≢false, true, false≢true}
 use Prim.Native.Nat.{ℕ}
@@ -12,7 +12,7 @@ use Rattle.value.specs.declared.Driver.the-variants as driven
 use Rattle.value.specs.Value.{driver, net}
 use Rattle.cell.specs.declared.Cell.{Cell}
 use Rattle.cell.specs.declared.Cell.the-variants.{Input, Output, Buf, Not, And, Or, Xor, Mux, Aig}
-use Rattle.netlist.specs.Shape.{visit, visitControl, visitMut, isInput}
+use Rattle.netlist.specs.Shape.{visit, visitControl, visitMut, isSource, combReads}
 use Rattle.order_laws.specs.Members.{All, Drives}
 use Rattle.levels_laws.specs.Algebra.{Algebra, drivenValue, netValue, controlValue, cellValue}
 
@@ -37,8 +37,8 @@ module _ {A : Type 0} (alg : Algebra A) where
   control-same u v (Pos n) e = e
   control-same u v (Neg n) e = ap (alg .not) e
 
-  pub cell-same : (u v : Net → A) (own : A) (c : Cell) → All (λ n. u n ≡ v n) (visit c) → cellValue alg u own c ≡ cellValue alg v own c
-  unfolding All visit cellValue
+  pub cell-same : (u v : Net → A) (own : A) (c : Cell) → All (λ n. u n ≡ v n) (combReads c) → cellValue alg u own c ≡ cellValue alg v own c
+  unfolding All visit combReads cellValue
   cell-same u v own (Input l) h = refl
   cell-same u v own (Output a l) h = ap (alg .output) (h .0)
   cell-same u v own (Buf a) h = ap (alg .buf) (h .0)
@@ -66,20 +66,20 @@ module _ {A : Type 0} (alg : Algebra A) where
   cell-visitMut v f own (Mux a b c) = refl
   cell-visitMut v f own (Aig p q) = ap₂ (alg .and) (control-visit v f p) (control-visit v f q)
 
-  -- an input has its own value, and no other cell has one
-  pub input-own : (v : Net → A) (own : A) (c : Cell) → isInput c ≡ true → cellValue alg v own c ≡ own
+  -- a source has its own value, and no other cell has one
+  pub source-own : (v : Net → A) (own : A) (c : Cell) → isSource c ≡ true → cellValue alg v own c ≡ own
   unfolding cellValue
-  input-own v own (Input l) e = refl
-  input-own v own (Output a l) e = absurd (false≢true e)
-  input-own v own (Buf a) e = absurd (false≢true e)
-  input-own v own (Not a) e = absurd (false≢true e)
-  input-own v own (And a b) e = absurd (false≢true e)
-  input-own v own (Or a b) e = absurd (false≢true e)
-  input-own v own (Xor a b) e = absurd (false≢true e)
-  input-own v own (Mux a b c) e = absurd (false≢true e)
-  input-own v own (Aig p q) e = absurd (false≢true e)
+  source-own v own (Input l) e = refl
+  source-own v own (Output a l) e = absurd (false≢true e)
+  source-own v own (Buf a) e = absurd (false≢true e)
+  source-own v own (Not a) e = absurd (false≢true e)
+  source-own v own (And a b) e = absurd (false≢true e)
+  source-own v own (Or a b) e = absurd (false≢true e)
+  source-own v own (Xor a b) e = absurd (false≢true e)
+  source-own v own (Mux a b c) e = absurd (false≢true e)
+  source-own v own (Aig p q) e = absurd (false≢true e)
 
-  pub cell-own : (v : Net → A) (x y : A) (c : Cell) → isInput c ≡ false → cellValue alg v x c ≡ cellValue alg v y c
+  pub cell-own : (v : Net → A) (x y : A) (c : Cell) → isSource c ≡ false → cellValue alg v x c ≡ cellValue alg v y c
   unfolding cellValue
   cell-own v x y (Input l) e = absurd (true≢false e)
   cell-own v x y (Output a l) e = refl

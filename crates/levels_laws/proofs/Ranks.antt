@@ -1,4 +1,4 @@
--- A rank that falls along operands can be had below the number of slots. Assumes nothing.
+-- A rank that falls along what is read within a tick can be had below the number of slots. Assumes nothing.
 use mathlib.Core.Path.{_≡_, refl, sym, ap, _∙_}
 use mathlib.Core.Bool.{true}
 use mathlib.Core.List.{List, map}
@@ -17,23 +17,23 @@ use Rattle.loops.proofs.Edges.{edge-below}
 use Rattle.loops.proofs.Reach.{onLoop-false}
 use Rattle.loops.proofs.Rank.{rank, rank-falls, falls-no-loop}
 use Rattle.netlist.specs.Netlist.{cellIn}
-use Rattle.netlist.specs.Shape.{visit}
+use Rattle.netlist.specs.Shape.{combReads}
 use Rattle.order.specs.Orders.{bitDeps}
 use Rattle.order_laws.specs.Ordered.{has}
 use Rattle.order_laws.specs.Members.{Drives}
 use Rattle.order_laws.proofs.Lists.{getD-mapped}
 use Rattle.order_laws.proofs.Edges.{edges-have, have-edges}
 use Rattle.order_laws.proofs.Members.{all-imp}
-use Rattle.order_laws.proofs.Bits.{deps-have}
+use Rattle.order_laws.proofs.Bits.{sourcesLast, deps-fall}
 use Rattle.levels_laws.specs.Algebra.{Ranked, Before}
 
--- a rank that falls along operands falls along the bits that a bit depends on
-pub ranked-falls : (cs : List Cell) (rank : ℕ → ℕ) → Ranked cs rank → (s d : ℕ) → has d (bitDeps cs s) ≡ true → rank d < rank s
+-- such a rank, with the sources last, falls along the bits that a bit depends on
+pub ranked-falls : (cs : List Cell) (rank : ℕ → ℕ) → Ranked cs rank → (s d : ℕ) → has d (bitDeps cs s) ≡ true → sourcesLast cs rank d < sourcesLast cs rank s
 unfolding Ranked
-ranked-falls cs rank ranked s =
-    deps-have (λ d. rank d < rank s) cs s (λ l. all-imp (Before cs rank s) (Drives (λ d. rank d < rank s)) (λ n b x e. b x e .1) (visit (cellIn cs s)) (ranked s l))
+ranked-falls cs rank ranked =
+    deps-fall cs rank (λ s l. all-imp (Before cs rank s) (Drives (λ d. rank d < rank s)) (λ n b x e. b x e .1) (combReads (cellIn cs s)) (ranked s l))
 
--- records of cells, whatever their bits, have no loop where a rank falls along operands
+-- records of cells, whatever their bits, have no loop where there is such a rank
 pub ranked-no-loop : (cs : List Cell) (rank : ℕ → ℕ) → Ranked cs rank → (rs : List Record) (bit : ℕ → ℕ) → length rs ≡ length cs
     → ((s : ℕ) → s < length cs → recordIn rs s ≡ cellRecord (bit s) (cellIn cs s)) → (s : ℕ) → OnLoop rs s → ⊥
 unfolding Ranked

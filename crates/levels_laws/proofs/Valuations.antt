@@ -1,11 +1,11 @@
--- THE ONE VALUATION: where a rank falls along operands, at most one valuation fits all cells, and rounds lead to it. Assumes nothing.
+-- THE ONE VALUATION: where a rank falls along what is read within a tick, at most one valuation fits all cells, and rounds lead to it. Assumes nothing.
 use mathlib.Core.Path.{_≡_, sym, ap, _∙_}
 use mathlib.Core.List.{List}
 use Prim.Native.Nat.{ℕ, zero, suc, _<_}
 use native.Mathlib.Omega.{arith}
 use lib.ListN.{length}
 use Rattle.cell.specs.declared.Cell.{Cell}
-use Rattle.netlist.specs.Shape.{visit}
+use Rattle.netlist.specs.Shape.{combReads}
 use Rattle.netlist.specs.Netlist.{cellIn}
 use Rattle.order_laws.proofs.Members.{all-imp}
 use Rattle.levels_laws.specs.Algebra.{Algebra, netValue, cellValue, Fits, Before, Ranked}
@@ -20,7 +20,7 @@ module _ {A : Type 0} (alg : Algebra A) (cs : List Cell) (rank : ℕ → ℕ) (r
   cell-agrees u v own s l h =
       cell-same alg (netValue alg u) (netValue alg v) own (cellIn cs s)
       (all-imp (Before cs rank s) (λ n. netValue alg u n ≡ netValue alg v n)
-      (λ n b. value-same alg u v n (λ x e. h (x .0) (b x e .0) (b x e .1))) (visit (cellIn cs s)) (ranked s l))
+      (λ n b. value-same alg u v n (λ x e. h (x .0) (b x e .0) (b x e .1))) (combReads (cellIn cs s)) (ranked s l))
 
   module _ (own : ℕ → A) where
     same-below : (u v : ℕ → A) → Fits alg own cs u → Fits alg own cs v → (k s : ℕ) → rank s < k → s < length cs → u s ≡ v s
@@ -43,7 +43,7 @@ module _ {A : Type 0} (alg : Algebra A) (cs : List Cell) (rank : ℕ → ℕ) (r
       unfolding Fits
       rounds-fit k low s l = settled k s (low s l) l ∙ steps k s l
 
--- the inputs' values may be given in another way
+-- the sources' values may be given in another way
 pub fits-own : {A : Type 0} (alg : Algebra A) (cs : List Cell) (own own′ v : ℕ → A) → ((s : ℕ) → s < length cs → own s ≡ own′ s)
     → Fits alg own cs v → Fits alg own′ cs v
 unfolding Fits

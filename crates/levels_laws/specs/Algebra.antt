@@ -12,7 +12,7 @@ use Rattle.value.specs.declared.Driver.the-variants as driven
 use Rattle.value.specs.Value.{driver}
 use Rattle.cell.specs.declared.Cell.{Cell}
 use Rattle.cell.specs.declared.Cell.the-variants.{Input, Output, Buf, Not, And, Or, Xor, Mux, Aig}
-use Rattle.netlist.specs.Shape.{visit}
+use Rattle.netlist.specs.Shape.{combReads}
 use Rattle.netlist.specs.Netlist.{cellIn}
 use Rattle.order_laws.specs.Members.{All, Drives}
 
@@ -44,7 +44,7 @@ module _ {A : Type 0} (alg : Algebra A) where
   controlValue v (Pos n) = v n
   controlValue v (Neg n) = alg .not (v n)
 
-  -- the value of a cell, given those of the nets and, for an input, its own
+  -- the value of a cell, given those of the nets and, for a source, its own
   unfoldable pub cellValue : (Net → A) → A → Cell → A
   cellValue v own (Input l) = own
   cellValue v own (Output a l) = alg .output (v a)
@@ -56,14 +56,14 @@ module _ {A : Type 0} (alg : Algebra A) where
   cellValue v own (Mux a b c) = alg .mux (v a) (v b) (v c)
   cellValue v own (Aig p q) = alg .and (controlValue v p) (controlValue v q)
 
-  -- a valuation that fits every cell, given the inputs' values by slot
+  -- a valuation that fits every cell, given the sources' values by slot
   unfoldable pub Fits : (ℕ → A) → List Cell → (ℕ → A) → Type 0
   Fits own cs v = (s : ℕ) → s < length cs → v s ≡ cellValue (netValue v) (own s) (cellIn cs s)
 
--- a net that slot s reads is constant or is the net of a slot of lower rank
+-- a net that slot s reads within a tick is constant or is the net of a slot of lower rank
 abbrev pub Before : List Cell → (ℕ → ℕ) → ℕ → Net → Type 0
 Before cs rank s = Drives (λ x. (x < length cs) × (rank x < rank s))
 
--- a rank that falls from each slot to those that it reads
+-- a rank that falls from each slot to those that it reads within a tick
 unfoldable pub Ranked : List Cell → (ℕ → ℕ) → Type 0
-Ranked cs rank = (s : ℕ) → s < length cs → All (Before cs rank s) (visit (cellIn cs s))
+Ranked cs rank = (s : ℕ) → s < length cs → All (Before cs rank s) (combReads (cellIn cs s))

@@ -14,9 +14,10 @@ use Rattle.cell.specs.declared.Cell.{Cell}
 use Rattle.cell.specs.declared.Cell.the-variants.{Input, Output, Buf, Not, And, Or, Xor, Mux, Aig}
 use Rattle.cell.specs.Tabulate.{tabulate}
 use Rattle.cell.proofs.Lists.{tabulate-length}
-use Rattle.netlist.specs.Shape.{visit, isInput, isOutput, hasEffects}
+use Rattle.netlist.specs.Shape.{visit, isInput, isSource, isOutput, hasEffects}
 use Rattle.netlist.specs.Netlist.{Netlist, cellIn, slots, those, anyOf, joined, sources, startOf, run, outputOf, iterCells, cellDeps}
 use Rattle.netlist.proofs.Lists.{those-length}
+use Rattle.netlist.proofs.Sources.{source-input}
 use Rattle.order.specs.Walk.{Walk, isVisited, mark, each, down, walk, walkFrom, fresh}
 use Rattle.order.specs.Orders.{emit, iterCellsTopo}
 use Rattle.merge.specs.Words.{Sequenced, widthOf, loadOf, sum}
@@ -205,8 +206,8 @@ module _ (d : Netlist) (seq : Sequenced (d .bits)) (fits : length (d .cells) ≡
       (every-slot (λ x. x < length (d .bits)) (length (d .cells)) (λ x l. omega arith))
       (λ x l e. (l, any-map (startOf (d .bits)) x read e (λ z q. ap (λ (y : ℕ). getD (d .bits) y 0) q ∙ start-bit (d .bits) seq (getD (d .bits) z 0) z refl)))
 
-  abbrev inputs : List ℕ
-  inputs = those (λ s. isInput (cellIn (d .cells) s)) all
+  abbrev firsts : List ℕ
+  firsts = those (λ s. isSource (cellIn (d .cells) s)) all
 
   abbrev others : List ℕ
   others = those (λ s. not (isOutput (cellIn (d .cells) s))) all
@@ -215,7 +216,7 @@ module _ (d : Netlist) (seq : Sequenced (d .bits)) (fits : length (d .cells) ≡
   outputs = those (λ s. isOutput (cellIn (d .cells) s)) all
 
   abbrev begun : Walk
-  begun = each emit inputs (fresh (length (d .cells)))
+  begun = each emit firsts (fresh (length (d .cells)))
 
   -- the order holds starts of cells only
   pub order-starts : Every Start (iterCellsTopo d)
@@ -224,8 +225,8 @@ module _ (d : Netlist) (seq : Sequenced (d .bits)) (fits : length (d .cells) ≡
       every-append Start (walkFrom (length (d .cells)) (cellDeps d) others begun .result) outputs
       (each-every Start (walk (length (d .cells)) (cellDeps d)) others (walk-every Start (length (d .cells)) (cellDeps d) deps-start) begun
       (some-start (λ s. not (isOutput (cellIn (d .cells) s))))
-      (each-every Start emit inputs (λ s w p q. every-more Start (w .result) s q p) (fresh (length (d .cells)))
-      (some-start (λ s. isInput (cellIn (d .cells) s))) tt))
+      (each-every Start emit firsts (λ s w p q. every-more Start (w .result) s q p) (fresh (length (d .cells)))
+      (some-start (λ s. isSource (cellIn (d .cells) s))) tt))
       (some-start (λ s. isOutput (cellIn (d .cells) s)))
 
   effects-none : (s : ℕ) → hasEffects (cellIn (d .cells) s) ≡ true → figureOf d s ≡ 0
@@ -264,8 +265,8 @@ module _ (d : Netlist) (seq : Sequenced (d .bits)) (fits : length (d .cells) ≡
         sum-append f (each (walk n (cellDeps d)) others begun .result) outputs,
         sum-none f outputs (none-of (λ s. isOutput (cellIn (d .cells) s)) (λ s e. or-true (isInput (cellIn (d .cells) s)) (isOutput (cellIn (d .cells) s)) (inr e))),
         each-charge f (λ s. Unit {0}) (walk n (cellDeps d)) others (every-unit f others) (λ s w u. walk-charge f n (cellDeps d) s w) begun,
-        each-charge f (λ s. f s ≡ 0) emit inputs
-            (none-of (λ s. isInput (cellIn (d .cells) s)) (λ s e. or-true (isInput (cellIn (d .cells) s)) (isOutput (cellIn (d .cells) s)) (inl e)))
+        each-charge f (λ s. f s ≡ 0) emit firsts
+            (none-of (λ s. isSource (cellIn (d .cells) s)) (λ s e. or-true (isInput (cellIn (d .cells) s)) (isOutput (cellIn (d .cells) s)) (inl (source-input (cellIn (d .cells) s) e))))
             (emit-charge f) (fresh n),
         cells-fit (d .bits) f figure-most,
         ap (λ (k : ℕ). left f (replicate k false)) fits,
@@ -297,13 +298,13 @@ module _ (d : Netlist) (seq : Sequenced (d .bits)) (fits : length (d .cells) ≡
       let h : charge (λ s. 1) (each emit ss (emit s w)) ≤ charge (λ s. 1) (emit s w) + length ss = emits-length ss (emit s w) in
       omega (arith, sum-more (λ s. 1) (w .result) s, left-marked (λ s. 1) (w .visited) s)
 
-  apart : (xs : List ℕ) → length (those (λ s. isInput (cellIn (d .cells) s)) xs) + length (those (λ s. isOutput (cellIn (d .cells) s)) xs) ≤ length xs
+  apart : (xs : List ℕ) → length (those (λ s. isSource (cellIn (d .cells) s)) xs) + length (those (λ s. isOutput (cellIn (d .cells) s)) xs) ≤ length xs
   unfolding those
   apart [] = omega arith
   apart (x ∷ xs) = go (cellIn (d .cells) x) (apart xs)
     where
-      go : (c : Cell) → length (those (λ s. isInput (cellIn (d .cells) s)) xs) + length (those (λ s. isOutput (cellIn (d .cells) s)) xs) ≤ length xs
-          → length (cond (isInput c) (x ∷ those (λ s. isInput (cellIn (d .cells) s)) xs) (those (λ s. isInput (cellIn (d .cells) s)) xs))
+      go : (c : Cell) → length (those (λ s. isSource (cellIn (d .cells) s)) xs) + length (those (λ s. isOutput (cellIn (d .cells) s)) xs) ≤ length xs
+          → length (cond (isSource c) (x ∷ those (λ s. isSource (cellIn (d .cells) s)) xs) (those (λ s. isSource (cellIn (d .cells) s)) xs))
           + length (cond (isOutput c) (x ∷ those (λ s. isOutput (cellIn (d .cells) s)) xs) (those (λ s. isOutput (cellIn (d .cells) s)) xs)) ≤ suc (length xs)
       go (Input l) h = omega arith
       go (Output y l) h = omega arith
@@ -325,7 +326,7 @@ module _ (d : Netlist) (seq : Sequenced (d .bits)) (fits : length (d .cells) ≡
         sym (one-each (iterCellsTopo d)) ∙ sum-append f (each (walk n (cellDeps d)) others begun .result) outputs,
         one-each outputs,
         each-charge f (λ s. Unit {0}) (walk n (cellDeps d)) others (every-unit f others) (λ s w u. walk-charge f n (cellDeps d) s w) begun,
-        emits-length inputs (fresh n),
+        emits-length firsts (fresh n),
         none-visited n,
         apart all,
         those-length (λ s. eqb (getD (d .bits) s 0) 0) (slots (length (d .bits))),

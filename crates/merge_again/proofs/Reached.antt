@@ -15,9 +15,8 @@ use Rattle.order_laws.specs.Members.{All, Drives}
 use Rattle.order_laws.proofs.Members.{all-imp, all-both}
 use Rattle.order_laws.proofs.Operands.{all-visited}
 use Rattle.order_laws.proofs.Sorts.{effects-mapped}
-use Rattle.levels_laws.specs.Algebra.{Before, Ranked}
 use Rattle.kept.proofs.Chosen.{count, count-yes, PlaceOf, place-of, SlotAt, slot-at}
-use Rattle.kept.proofs.Sound.{Sound, Inner, inner, Bit, output-bits, bits-start, start-inside, start-zero}
+use Rattle.kept.proofs.Sound.{Inside, Sound, Inner, inner, Bit, output-bits, bits-start, start-inside, start-zero}
 use Rattle.kept.proofs.Keep.{KeptNet, effects-kept, reads-kept, marked-has}
 use Rattle.kept.proofs.Compact.{old, cell-at, compact-length, compact-sound, bit-at, mapped-slot}
 
@@ -105,16 +104,15 @@ module _ (d : Netlist) (rank : ℕ → ℕ) (sound : Sound d rank) where
 
   -- what a slot reads that is kept, and kept again
   reads-again : (i : ℕ) → i < total → kept i ≡ true → again (place i) ≡ true → All (Drives (λ x. Again (startOf (d .bits) x))) (visit (cellIn (d .cells) i))
-  unfolding Ranked
   reads-again i l k a =
       let f : Net → Net = netMap (d .bits) (keep d) in
       let ms : List Net = visit (cellIn (d .cells) i) in
       let New : Net → Type 0 = λ m. KeptNet (compact d) rank′ sound′ (f m) in
-      let Old : Net → Type 0 = λ m. Before (d .cells) rank i m × KeptNet d rank sound m in
+      let Old : Net → Type 0 = λ m. Inside (d .cells) m × KeptNet d rank sound m in
       all-imp (λ m. Old m × New m) (Drives (λ x. Again (startOf (d .bits) x)))
-      (λ m h x e. start-again (x .0) (h .0 .0 x e .0) (h .0 .1 x e) (h .1 (slotAt (place (x .0))) (mapped-slot d rank sound m x e (h .0 .0 x e .0)))) ms
+      (λ m h x e. start-again (x .0) (h .0 .0 x e) (h .0 .1 x e) (h .1 (slotAt (place (x .0))) (mapped-slot d rank sound m x e (h .0 .0 x e)))) ms
       (all-both Old New ms
-      (all-both (Before (d .cells) rank i) (KeptNet d rank sound) ms (sound .ranked i l) (reads-kept d rank sound i l k))
+      (all-both (Inside (d .cells)) (KeptNet d rank sound) ms (sound .inside i l) (reads-kept d rank sound i l k))
       (all-visited (KeptNet (compact d) rank′ sound′) f (cellIn (d .cells) i)
       (subst (λ (c : Cell). All (KeptNet (compact d) rank′ sound′) (visit c)) (cell-placed i l k)
       (reads-kept (compact d) rank′ sound′ (place i) (place-inside i l k) a))))

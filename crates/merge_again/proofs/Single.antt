@@ -17,8 +17,7 @@ use Rattle.order_laws.proofs.Truth.{either, never}
 use Rattle.order_laws.proofs.Sorts.{inputs-by, input-effects}
 use Rattle.order_laws.proofs.Members.{all-imp, all-both}
 use Rattle.order_laws.proofs.Operands.{input-reads}
-use Rattle.levels_laws.specs.Algebra.{Before, Ranked}
-use Rattle.kept.proofs.Sound.{Inner, Sound, inner, same-by, Bit, output-bits, start-inside, start-zero, start-kind}
+use Rattle.kept.proofs.Sound.{Inner, Inside, Sound, inner, same-by, Bit, output-bits, start-inside, start-zero, start-kind}
 use Rattle.kept.proofs.Keep.{marked-has}
 
 run-none : (l : List ℕ) → getD l 0 0 ≡ 0 → run l ≡ 0
@@ -78,7 +77,7 @@ module _ (d : Netlist) (rank : ℕ → ℕ) (sound : Sound d rank)
         subst Start (let q : s ≡ s - bit s = omega arith in q) (record { inside = l; first = z; holds = h }))
 
     deps-start : (s : ℕ) → Start s → All (λ i. All (Drives (λ x. Start (startOf (d .bits) x))) (visit (cellIn (d .cells) i))) (outputOf (d .bits) s)
-    unfolding Ranked All
+    unfolding All
     deps-start s h =
         let F : ℕ → Type 0 = λ i. All (Drives (λ x. Start (startOf (d .bits) x))) (visit (cellIn (d .cells) i)) in
         either (is-input s)
@@ -86,9 +85,9 @@ module _ (d : Netlist) (rank : ℕ → ℕ) (sound : Sound d rank)
         (λ i b. input-reads (Drives (λ x. Start (startOf (d .bits) x))) (cellIn (d .cells) i) (same-by d rank sound inputs-by s i (b .kind) ∙ e))
         (outputOf (d .bits) s) (output-bits d rank sound s (h .inside)))
         (λ e. subst (All F) (sym (one-bit s (h .inside) e)) (
-          all-imp (λ m. Drives P m × Before (d .cells) rank s m) (Drives (λ x. Start (startOf (d .bits) x)))
-              (λ m k x q. start (x .0) (k .1 x q .0) (k .0 x q)) (visit (cellIn (d .cells) s))
-              (all-both (Drives P) (Before (d .cells) rank s) (visit (cellIn (d .cells) s)) (closed s (h .inside) (h .holds)) (sound .ranked s (h .inside))),
+          all-imp (λ m. Drives P m × Inside (d .cells) m) (Drives (λ x. Start (startOf (d .bits) x)))
+              (λ m k x q. start (x .0) (k .1 x q) (k .0 x q)) (visit (cellIn (d .cells) s))
+              (all-both (Drives P) (Inside (d .cells)) (visit (cellIn (d .cells) s)) (closed s (h .inside) (h .holds)) (sound .inside s (h .inside))),
           tt,
         ))
 

@@ -20,8 +20,7 @@ use Rattle.compact.specs.Compact.{keep, isKept, keptSlots, countKept, renumbere
 use Rattle.order_laws.specs.Members.{All}
 use Rattle.order_laws.proofs.Members.{all-imp, all-tabulate, any-none, those-every}
 use Rattle.order_laws.proofs.Lists.{map-same, map-slots}
-use Rattle.levels_laws.specs.Algebra.{Before, Ranked}
-use Rattle.kept.proofs.Sound.{Sound}
+use Rattle.kept.proofs.Sound.{Inside, Sound}
 use Rattle.kept.proofs.Compact.{compact-sound}
 use Rattle.normal.proofs.Alike.{visit-stays}
 use Rattle.merge_again.proofs.Reached.{compact-reached}
@@ -46,20 +45,19 @@ module _ (d : Netlist) (rank : ℕ → ℕ) (sound : Sound d rank) (whole : (s :
   unfolding countKept
   place-same s h = ap length (slots-kept s h) ∙ tabulate-length (λ i. i) s
 
-  net-same : (s : ℕ) (m : Net) → Before (d .cells) rank s m → netMap (d .bits) (keep d) m ≡ m
+  net-same : (m : Net) → Inside (d .cells) m → netMap (d .bits) (keep d) m ≡ m
   unfolding netMap
-  net-same s m b = go (driver m) refl
+  net-same m b = go (driver m) refl
     where
       go : (r : Driver) → driver m ≡ r → renumbered (d .bits) (keep d) m r ≡ m
       go (driven.Const t) e = refl
-      go (driven.Cell x) e = ap netIn (place-same (x .0) (let l : x .0 < total = b x e .0 in omega arith)) ∙ sym (cell-driver m x e)
+      go (driven.Cell x) e = ap netIn (place-same (x .0) (let l : x .0 < total = b x e in omega arith)) ∙ sym (cell-driver m x e)
 
   cell-same : (s : ℕ) → s < total → visitMut (netMap (d .bits) (keep d)) (cellIn (d .cells) s) ≡ cellIn (d .cells) s
-  unfolding Ranked
   cell-same s l =
       let f : Net → Net = netMap (d .bits) (keep d) in
       let c : Cell = cellIn (d .cells) s in
-      visit-stays f c (all-imp (Before (d .cells) rank s) (λ n. f n ≡ n) (net-same s) (visit c) (sound .ranked s l))
+      visit-stays f c (all-imp (Inside (d .cells)) (λ n. f n ≡ n) net-same (visit c) (sound .inside s l))
 
   pub compact-whole : compact d ≡ d
   unfolding compact

@@ -1,19 +1,20 @@
 -- The cells of the records in the work slice, and their sorts by kind number. Assumes nothing.
-use mathlib.Core.Path.{_≡_, sym, ap, _∙_}
+use mathlib.Core.Path.{_≡_, refl, sym, ap, _∙_}
 use mathlib.Core.List.{List, map}
 use Prim.Native.Nat.{ℕ, _<_, _≤_}
 use native.Mathlib.Omega.{arith}
 use lib.Dec.{eqb}
 use lib.ListN.{length, getD, length-map, List·getD-map, List·getD-eq-default}
 use Rattle.kinds.specs.declared.Sort.the-variants as sort
-use Rattle.kinds.specs.Kinds.{sortOf, numberOf}
+use Rattle.kinds.specs.declared.Sort.{Sort}
+use Rattle.kinds.specs.Kinds.{sortOf, numberOf, isSourceSort}
 use Rattle.kinds.proofs.Laws.{rowsAgree, by-row}
 use Rattle.kinds.proofs.Tests.{past-one}
 use Rattle.cell.specs.declared.Record.{Record}
 use Rattle.cell.specs.declared.Cell.the-variants.{Input}
 use Rattle.cell.specs.Records.{recordOf, cellBy, cellOf}
 use Rattle.cell.proofs.Lists.{tabulate-length, tabulate-at}
-use Rattle.netlist.specs.Shape.{isInput, isOutput}
+use Rattle.netlist.specs.Shape.{isInput, isSource, isOutput}
 use Rattle.netlist.specs.Netlist.{cellIn}
 use Rattle.netlist.specs.Areas.{wordRecord, recordsIn}
 
@@ -40,3 +41,20 @@ pub output-kind : (r : Record) → isOutput (cellOf r) ≡ eqb (r .kind) (number
 unfolding cellOf rowsAgree
 output-kind r =
     sym (by-row (λ k. eqb k (numberOf sort.Output)) (λ s. isOutput (cellBy s r)) tt (λ k l. past-one (numberOf sort.Output) k (omega arith) l) (r .kind))
+
+-- sources
+source-sort : (s : Sort) (r : Record) → isSource (cellBy s r) ≡ isSourceSort s
+source-sort sort.Unknown r = refl
+source-sort sort.Input r = refl
+source-sort sort.Output r = refl
+source-sort sort.Buf r = refl
+source-sort sort.Not r = refl
+source-sort sort.And r = refl
+source-sort sort.Or r = refl
+source-sort sort.Xor r = refl
+source-sort sort.Mux r = refl
+source-sort sort.Aig r = refl
+
+pub source-kind : (r : Record) → isSource (cellOf r) ≡ isSourceSort (sortOf (r .kind))
+unfolding cellOf
+source-kind r = source-sort (sortOf (r .kind)) r

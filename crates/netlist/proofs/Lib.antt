@@ -3,3 +3,4 @@ pub mod Areas
 pub mod Operands
 pub mod Cells
 pub mod Lists
+pub mod Sources

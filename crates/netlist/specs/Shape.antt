@@ -1,5 +1,5 @@
 -- What a cell reads, and of what sort it is, after netlist/src/cell.rs. Assumes nothing: these are definitions.
-use mathlib.Core.Bool.{Bool, true, false, _||_}
+use mathlib.Core.Bool.{Bool, true, false, cond, _||_}
 use mathlib.Core.List.{List, [], _∷_}
 use Rattle.value.specs.declared.Net.{Net}
 use Rattle.value.specs.declared.ControlNet.{ControlNet}
@@ -48,6 +48,22 @@ isInput (Or a b) = false
 isInput (Xor a b) = false
 isInput (Mux a b c) = false
 isInput (Aig p q) = false
+
+-- a source has its level from outside the tick. design.rs, `is_comb_edge`, asks it of the driver of a net, and a source drives no such edge
+abbrev pub isSource : Cell → Bool
+isSource (Input l) = true
+isSource (Output a l) = false
+isSource (Buf a) = false
+isSource (Not a) = false
+isSource (And a b) = false
+isSource (Or a b) = false
+isSource (Xor a b) = false
+isSource (Mux a b c) = false
+isSource (Aig p q) = false
+
+-- what a cell reads within a tick: loops, levels and ranks go by it. What it reads at all is `visit`
+unfoldable pub combReads : Cell → List Net
+combReads c = cond (isSource c) [] (visit c)
 
 abbrev pub isOutput : Cell → Bool
 isOutput (Input l) = false

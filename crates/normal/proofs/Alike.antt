@@ -18,11 +18,11 @@ use Rattle.value.proofs.Laws.{driver-const, cell-driver, driver-cell}
 use Rattle.cell.specs.declared.Cell.{Cell}
 use Rattle.cell.specs.declared.Cell.the-variants.{Input, Output, Buf, Not, And, Or, Xor, Mux, Aig}
 use Rattle.cell.specs.Records.{cellRecord}
-use Rattle.netlist.specs.Shape.{visit, visitControl, visitMut}
+use Rattle.netlist.specs.Shape.{visit, visitControl, visitMut, combReads}
 use Rattle.design.specs.Queue.{netIn}
 use Rattle.order_laws.specs.Members.{All, Drives}
-use Rattle.order_laws.proofs.Sorts.{kind-kept, ByKind, kindIn, same-sort}
-use Rattle.order_laws.proofs.Operands.{all-visited, visited-all}
+use Rattle.order_laws.proofs.Sorts.{kind-kept, ByKind, kindIn, same-sort, sources-by}
+use Rattle.order_laws.proofs.Operands.{all-comb, all-visited, comb-by, visited-all}
 use Rattle.normal.specs.Paired.{exchange, Alike, drivenAs, renumber}
 use Rattle.normal.proofs.Normal.{isBuf}
 use Rattle.normal.proofs.Rules.{Fixes}
@@ -163,6 +163,11 @@ image-image f g c d e a b =
 -- so what the kind decides is the same
 pub image-sort : {sort : Cell → Bool} → ByKind sort → (g : Net → Net) (c d : Cell) → Alike (visitMut g c) d → sort c ≡ sort d
 image-sort by g c d a = same-sort by 0 0 c d (image-kind g c d a)
+
+-- and what is read within a tick
+pub image-comb : (P : Net → Type 0) (g : Net → Net) (c d : Cell) → Alike (visitMut g c) d → All P (combReads d) → All (λ n. P (g n)) (combReads c)
+image-comb P g c d a h =
+    comb-by (λ n. P (g n)) c (λ e. image-operands P g c d a (all-comb P d (sym (image-sort sources-by g c d a) ∙ e) h))
 
 pub buf-kind : (bit : ℕ) (c : Cell) → isBuf c ≡ eqb (cellRecord bit c .kind) 3
 unfolding cellRecord

@@ -11,11 +11,10 @@ use Rattle.cell.specs.declared.Cell.{Cell}
 use Rattle.netlist.specs.Shape.{visit, visitMut, isInput, isOutput}
 use Rattle.netlist.specs.Netlist.{Netlist, cellIn, slots, those}
 use Rattle.levels.specs.Evaluate.{inputSlots, outputSlots}
-use Rattle.order_laws.specs.Members.{All, Drives}
+use Rattle.order_laws.specs.Members.{All}
 use Rattle.order_laws.proofs.Members.{all-imp, all-those, all-slots}
 use Rattle.order_laws.proofs.Lists.{map-same}
-use Rattle.levels_laws.specs.Algebra.{Before, Ranked}
-use Rattle.kept.proofs.Sound.{Sound}
+use Rattle.kept.proofs.Sound.{Inside, Sound}
 use Rattle.normal.specs.Paired.{Alike, renumber, PairedBy, Paired}
 use Rattle.normal.proofs.Alike.{visit-same, visit-stays, visit-back, alike-sym, alike-visit, image-image, renumber-stays, renumber-renumber}
 use Rattle.normal.proofs.Inverse.{Into, inverse, inverse-inside, inverse-right, inverse-left}
@@ -32,9 +31,8 @@ module _ (d : Netlist) (rank : ℕ → ℕ) (sound : Sound d rank) where
   cell = cellIn (d .cells)
 
   -- what holds of nets by their slots holds of each operand
-  operands : (P : Net → Type 0) → ((n : Net) → Drives (λ x. x < total) n → P n) → (s : ℕ) → s < total → All P (visit (cell s))
-  unfolding Ranked
-  operands P f s l = all-imp (Before (d .cells) rank s) P (λ n h. f n (λ x e. h x e .0)) (visit (cell s)) (sound .ranked s l)
+  operands : (P : Net → Type 0) → ((n : Net) → Inside (d .cells) n → P n) → (s : ℕ) → s < total → All P (visit (cell s))
+  operands P f s l = all-imp (Inside (d .cells)) P f (visit (cell s)) (sound .inside s l)
 
   module _ (e : Netlist) (p : ℕ → ℕ) (pairs : PairedBy p d e) where
     into : Into p total

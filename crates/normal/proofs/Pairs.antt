@@ -24,8 +24,7 @@ use Rattle.design.specs.Queue.{netIn, sourceIn}
 use Rattle.compact.specs.Compact.{keep, isKept}
 use Rattle.order_laws.proofs.Members.{all-imp}
 use Rattle.order_laws.proofs.Sorts.{ByKind, effects-by, inputs-by}
-use Rattle.levels_laws.specs.Algebra.{Before, Ranked}
-use Rattle.kept.proofs.Sound.{Sound}
+use Rattle.kept.proofs.Sound.{Inside, Sound}
 use Rattle.normal.specs.Paired.{Alike, renumber, PairedBy}
 use Rattle.normal.proofs.Normal.{lookIn, Still, Normal}
 use Rattle.normal.proofs.Rules.{isRuled, Leads, Follows, still-follows}
@@ -86,11 +85,10 @@ module _ (p : ℕ → ℕ) (e d : Netlist) (rank rank′ : ℕ → ℕ) (pairs :
   renamed = renumber within
 
   image-of : (s : ℕ) → s < total → Alike (visitMut renamed (cell s)) (image s)
-  unfolding Ranked
   image-of s l =
       subst (λ (c : Cell). Alike c (image s))
-      (visit-same (renumber p) renamed (cell s) (all-imp (Before (e .cells) rank′ s) (λ n. renumber p n ≡ renamed n)
-      (λ n h. renumber-same p within n (λ x k. sym (within-as (x .0) (h x k .0)))) (visit (cell s)) (sound .ranked s l)))
+      (visit-same (renumber p) renamed (cell s) (all-imp (Inside (e .cells)) (λ n. renumber p n ≡ renamed n)
+      (λ n h. renumber-same p within n (λ x k. sym (within-as (x .0) (h x k)))) (visit (cell s)) (sound .inside s l)))
       (pairs .cells s l)
 
   follows : Follows renamed (lookIn (e .cells)) (lookIn (d .cells))

@@ -25,9 +25,10 @@ use Rattle.cell.specs.declared.Cell.the-variants.{Input, Output, Buf, Not, And,
 use Rattle.cell.specs.Tabulate.{tabulate}
 use Rattle.cell.specs.Records.{recordOf, cellOf}
 use Rattle.cell.proofs.Lists.{tabulate-length, tabulate-at}
+use Rattle.kinds.specs.Kinds.{sortOf, isSourceSort}
 use Rattle.netlist.proofs.Lists.{those-append}
-use Rattle.netlist.proofs.Cells.{cells-length, cell-at, cell-past, input-kind, output-kind}
-use Rattle.netlist.specs.Shape.{visit, isInput, isOutput}
+use Rattle.netlist.proofs.Cells.{cells-length, cell-at, cell-past, source-kind, output-kind}
+use Rattle.netlist.specs.Shape.{visit, isSource, isOutput}
 use Rattle.netlist.specs.Netlist.{cellIn, slots, those, joined, drivenBy, sources}
 use Rattle.netlist.specs.Areas.{wordRecord, recordsIn, wordsIn, orderAt, visitedAt}
 use Rattle.order.specs.declared.Operands.{Operands}
@@ -39,14 +40,14 @@ use Rattle.order.proofs.Walks.{walk-visited}
 use Rattle.order.proofs.Words.{mark-past, new-below}
 use Rattle.order.proofs.Walking.{visited-of, walks-none, walks-then, walks-ready, walks-records, marked-records, pushed-next, pushed, walks-total, walks-grown, walks-there, none-unvisited, cleared-ready, cleared-unvisited, cleared-walked, cleared-then}
 
--- an output and an input by the first word of a record
+-- an output and a source by the first word of a record
 pub output-word : (ws : List ℕ) (s x : ℕ) → x ≡ getD ws (s * 4) 0 → eqb (x % 256) 2 ≡ isOutput (cellOf (wordRecord ws s))
 unfolding wordRecord
 output-word ws s x e = ap (λ (y : ℕ). eqb (y % 256) 2) e ∙ sym (output-kind (wordRecord ws s))
 
-pub input-word : (ws : List ℕ) (s x : ℕ) → x ≡ getD ws (s * 4) 0 → eqb (x % 256) 1 ≡ isInput (cellOf (wordRecord ws s))
+pub source-word : (ws : List ℕ) (s x : ℕ) → x ≡ getD ws (s * 4) 0 → isSourceSort (sortOf (x % 256)) ≡ isSource (cellOf (wordRecord ws s))
 unfolding wordRecord
-input-word ws s x e = ap (λ (y : ℕ). eqb (y % 256) 1) e ∙ sym (input-kind (wordRecord ws s))
+source-word ws s x e = ap (λ (y : ℕ). isSourceSort (sortOf (y % 256))) e ∙ sym (source-kind (wordRecord ws s))
 
 -- at most one passes
 driven-reverse : (p : ℕ → Bool) (d : Driver) → reverse (those p (drivenBy d)) ≡ those p (drivenBy d)
@@ -87,8 +88,8 @@ reverse-three p x y z = rw (
 pub bits-by : (rs : List Record) (s : ℕ) → bitsBy rs s ≡ operandBits rs (operandsOf (cellIn (map cellOf rs) s))
 unfolding bitsBy bitDeps operandBits bitsOf
 bits-by rs s =
-    ap (λ (xs : List ℕ). reverse (those (λ x. not (isInput (cellIn (map cellOf rs) x))) xs)) (sources-operands (cellIn (map cellOf rs) s))
-    ∙ reverse-three (λ x. not (isInput (cellIn (map cellOf rs) x))) (driver (operandsOf (cellIn (map cellOf rs) s) .0))
+    ap (λ (xs : List ℕ). reverse (those (λ x. not (isSource (cellIn (map cellOf rs) x))) xs)) (sources-operands (cellIn (map cellOf rs) s))
+    ∙ reverse-three (λ x. not (isSource (cellIn (map cellOf rs) x))) (driver (operandsOf (cellIn (map cellOf rs) s) .0))
     (driver (operandsOf (cellIn (map cellOf rs) s) .1)) (driver (operandsOf (cellIn (map cellOf rs) s) .2))
 
 -- past the items there is nothing to walk to
@@ -99,36 +100,36 @@ walks-nothing n count ws ws′ r s l v = record {
   frame = v .frame;
 }
 
--- a net that is constant or leads to an input
+-- a net that is constant or leads to a source
 module _ (n count : ℕ) (ws : List ℕ) (x : Net) (d : Driver) (e : d ≡ driver x) where
   pub net-constant : (t : Trit) → d ≡ driven.Const t → Walks bitsBy (bitsOf (recordsIn n ws) x) n count ws ws count
   unfolding bitsOf those
   net-constant t q = rw (sym e ∙ q) (walks-none bitsBy n count ws)
 
-  module _ (s : Slot) (q : d ≡ driven.Cell s) (b : Bool) (i : b ≡ isInput (cellOf (wordRecord ws (s .0)))) where
+  module _ (s : Slot) (q : d ≡ driven.Cell s) (b : Bool) (i : b ≡ isSource (cellOf (wordRecord ws (s .0)))) where
     abbrev kept : List ℕ
-    kept = those (λ y. not (isInput (cellIn (map cellOf (recordsIn n ws)) y))) (s .0 ∷ [])
+    kept = those (λ y. not (isSource (cellIn (map cellOf (recordsIn n ws)) y))) (s .0 ∷ [])
 
     bits-cell : bitsOf (recordsIn n ws) x ≡ kept
     unfolding bitsOf
-    bits-cell = ap (λ (y : Driver). those (λ z. not (isInput (cellIn (map cellOf (recordsIn n ws)) z))) (drivenBy y)) (sym e ∙ q)
+    bits-cell = ap (λ (y : Driver). those (λ z. not (isSource (cellIn (map cellOf (recordsIn n ws)) z))) (drivenBy y)) (sym e ∙ q)
 
-    left-out : isInput (cellIn (map cellOf (recordsIn n ws)) (s .0)) ≡ true → kept ≡ []
+    left-out : isSource (cellIn (map cellOf (recordsIn n ws)) (s .0)) ≡ true → kept ≡ []
     unfolding those
     left-out h = rw h
 
-    taken : isInput (cellIn (map cellOf (recordsIn n ws)) (s .0)) ≡ false → kept ≡ s .0 ∷ []
+    taken : isSource (cellIn (map cellOf (recordsIn n ws)) (s .0)) ≡ false → kept ≡ s .0 ∷ []
     unfolding those
     taken h = rw h
 
     past : n ≤ s .0 → kept ≡ []
-    past l = left-out (ap isInput (cell-past n ws (s .0) l))
+    past l = left-out (ap isSource (cell-past n ws (s .0) l))
 
-    at : s .0 < n → isInput (cellIn (map cellOf (recordsIn n ws)) (s .0)) ≡ b
-    at l = ap isInput (cell-at n ws (s .0) l) ∙ sym i
+    at : s .0 < n → isSource (cellIn (map cellOf (recordsIn n ws)) (s .0)) ≡ b
+    at l = ap isSource (cell-at n ws (s .0) l) ∙ sym i
 
-    pub net-input : b ≡ true → Walks bitsBy (bitsOf (recordsIn n ws) x) n count ws ws count
-    net-input t =
+    pub net-source : b ≡ true → Walks bitsBy (bitsOf (recordsIn n ws) x) n count ws ws count
+    net-source t =
         subst (λ (xs : List ℕ). Walks bitsBy xs n count ws ws count) (sym (bits-cell ∙ go (decLt (s .0) n))) (walks-none bitsBy n count ws)
       where
         go : Dec (s .0 < n) → kept ≡ []

@@ -1,4 +1,4 @@
--- The parts of the cell order: inputs, then the walk from the cells that are no outputs, then outputs. Assumes nothing.
+-- The parts of the cell order: sources, then the walk from the cells that are no outputs, then outputs. Assumes nothing.
 use mathlib.Core.Path.{_≡_, refl, sym, ap, _∙_, subst}
 use mathlib.Core.Bool.{Bool, true, false, cond, not}
 use mathlib.Core.List.{List, [], _∷_, _++_, map, append-assoc, append-nil}
@@ -14,7 +14,7 @@ use Rattle.cell.specs.declared.Cell.{Cell}
 use Rattle.cell.specs.Tabulate.{tabulate}
 use Rattle.cell.specs.Records.{cellOf}
 use Rattle.cell.proofs.Lists.{tabulate-length}
-use Rattle.netlist.specs.Shape.{isInput, isOutput}
+use Rattle.netlist.specs.Shape.{isSource, isOutput}
 use Rattle.netlist.specs.Netlist.{netlistOf, cellIn, slots, those, iterCells}
 use Rattle.netlist.specs.Areas.{wordRecord, recordsIn, wordsIn, Within, visitedAt, orderAt, replacedAt}
 use Rattle.netlist.proofs.Frames.{within-none, within-then, within-wider, records-kept}
@@ -22,7 +22,7 @@ use Rattle.order.specs.Walk.{Walk, isVisited, push, each, walk, walkFrom
 use Rattle.order.specs.Orders.{emit, iterCellsTopo}
 use Rattle.order.specs.Code.{walkOf, visitedIn, unvisitedIn, cellsBy, Ready, Walks, Clears, SortsCells}
 use Rattle.order.specs.Descent.{bitsIn}
-use Rattle.order.specs.Starts.{startsThat, notOutput, Emits, PutsInputs, Free, Appends}
+use Rattle.order.specs.Starts.{startsThat, notOutput, Emits, PutsSources, Free, Appends}
 use Rattle.order.proofs.Walks.{count-set, each-append}
 use Rattle.order.proofs.Words.{new-below, order-frame, words-push, walk-pushed}
 use Rattle.order.proofs.Walking.{visited-of, unvisited-of, walks-none, walks-then, walks-ready, walks-records, walks-total, marked, marked-frame, marked-ready, cleared-walk, cleared-unvisited, cleared-records, cleared-then}
@@ -80,19 +80,19 @@ module _ (q : Cell → Bool) (n : ℕ) (ws : List ℕ) (s x : ℕ) (e : x ≡ ge
     pub starts-left : q (cellOf (wordRecord ws s)) ≡ false → startsThat q (recordsIn n ws) (s ∷ []) ≡ []
     starts-left f = starts-here ∙ one-left (λ u. q (cellIn (map cellOf (recordsIn n ws)) u)) s (ap q (cell-at n ws s l) ∙ f)
 
--- an input, or none, at a slot that was not visited
+-- a source, or none, at a slot that was not visited
 emits-none : (xs : List ℕ) (s n count : ℕ) (ws : List ℕ) → xs ≡ [] → Emits xs s n count ws ws count
 unfolding each
 emits-none xs s n count ws e = subst (λ (ys : List ℕ). Emits ys s n count ws ws count) (sym e)
     (record { said = refl; total = refl; others = λ u h. refl; frame = within-none visitedAt replacedAt ws })
 
 module _ (n count : ℕ) (ws : List ℕ) (s x : ℕ) (e : x ≡ getD (bitsIn (recordsIn n ws)) s 0) where
-  pub emit-inside : (x ≡ 0 → ⊥) → Emits (startsThat isInput (recordsIn n ws) (s ∷ [])) s n count ws ws count
-  emit-inside h = emits-none _ s n count ws (starts-inside isInput n ws s x e h)
+  pub emit-inside : (x ≡ 0 → ⊥) → Emits (startsThat isSource (recordsIn n ws) (s ∷ [])) s n count ws ws count
+  emit-inside h = emits-none _ s n count ws (starts-inside isSource n ws s x e h)
 
-  module _ (new : visitedIn n ws s ≡ false) (z : x ≡ 0) (b : Bool) (i : b ≡ isInput (cellOf (wordRecord ws s))) where
-    pub emit-left : b ≡ false → Emits (startsThat isInput (recordsIn n ws) (s ∷ [])) s n count ws ws count
-    emit-left f = emits-none _ s n count ws (starts-left isInput n ws s x e z (new-below n ws s new) (sym i ∙ f))
+  module _ (new : visitedIn n ws s ≡ false) (z : x ≡ 0) (b : Bool) (i : b ≡ isSource (cellOf (wordRecord ws s))) where
+    pub emit-left : b ≡ false → Emits (startsThat isSource (recordsIn n ws) (s ∷ [])) s n count ws ws count
+    emit-left f = emits-none _ s n count ws (starts-left isSource n ws s x e z (new-below n ws s new) (sym i ∙ f))
 
     module _ (g : Ready n count ws) (ws₁ ws₂ : List ℕ) (o : ws₁ ≡ set ws (visitedAt + s) 1) (p : ws₂ ≡ set ws₁ (orderAt + count) s) where
       below : count < 1024
@@ -104,11 +104,11 @@ module _ (n count : ℕ) (ws : List ℕ) (s x : ℕ) (e : x ≡ getD (bitsIn (re
           ap (walkOf n (count + 1)) p ∙ walk-pushed n ws₁ count s (r .few) (r .long) below
           ∙ ap (λ (w : Walk). push s w) (marked n count ws ws₁ s g new o count)
 
-      pub emit-done : b ≡ true → Emits (startsThat isInput (recordsIn n ws) (s ∷ [])) s n count ws ws₂ (count + 1)
+      pub emit-done : b ≡ true → Emits (startsThat isSource (recordsIn n ws) (s ∷ [])) s n count ws ws₂ (count + 1)
       unfolding each
       emit-done t =
           let r : Ready n count ws₁ = marked-ready n count ws ws₁ s g new o in
-          subst (λ (ys : List ℕ). Emits ys s n count ws ws₂ (count + 1)) (sym (starts-taken isInput n ws s x e z (new-below n ws s new) (sym i ∙ t))) (record {
+          subst (λ (ys : List ℕ). Emits ys s n count ws ws₂ (count + 1)) (sym (starts-taken isSource n ws s x e z (new-below n ws s new) (sym i ∙ t))) (record {
             said = emitted;
             total = omega (
               arith,
@@ -126,12 +126,12 @@ module _ (n count : ℕ) (ws : List ℕ) (s x : ℕ) (e : x ≡ getD (bitsIn (re
                 (order-frame n ws₁ count s (r .few) (r .long) below)));
           })
 
--- the inputs below s were put
+-- the sources below s were put
 pub record Putting (n : ℕ) (ws₁ ws : List ℕ) (count s : ℕ) : Type 0 where
   pub upto : s ≤ n
   pub few : n ≤ 512
   pub long : 16384 ≤ length ws
-  pub said : walkOf n count ws ≡ each emit (startsThat isInput (recordsIn n ws₁) (slots s)) (walkOf n 0 ws₁)
+  pub said : walkOf n count ws ≡ each emit (startsThat isSource (recordsIn n ws₁) (slots s)) (walkOf n 0 ws₁)
   pub total : count + unvisitedIn n ws ≡ n
   pub new : (u : ℕ) → s ≤ u → u < n → visitedIn n ws u ≡ false
   pub frame : Within visitedAt replacedAt ws₁ ws
@@ -155,27 +155,27 @@ module _ (n : ℕ) (ws₁ ws : List ℕ) (count s : ℕ) (g : Putting n ws₁ ws
   pub putting-new : s < n → visitedIn n ws s ≡ false
   putting-new l = g .new s (omega arith) l
 
-  pub putting-more : s < n → (ws′ : List ℕ) (r : ℕ) → Emits (startsThat isInput (recordsIn n ws) (s ∷ [])) s n count ws ws′ r → Putting n ws₁ ws′ r (s + 1)
+  pub putting-more : s < n → (ws′ : List ℕ) (r : ℕ) → Emits (startsThat isSource (recordsIn n ws) (s ∷ [])) s n count ws ws′ r → Putting n ws₁ ws′ r (s + 1)
   putting-more l ws′ r v = let few : n ≤ 512 = g .few in let rs : List Record = recordsIn n ws₁ in record {
     upto = omega arith;
     few = few;
     long = let h : 16384 ≤ length ws = g .long in omega (arith, v .frame .same);
     said = v .said
-        ∙ ap (λ (us : List Record). each emit (startsThat isInput us (s ∷ [])) (walkOf n count ws))
+        ∙ ap (λ (us : List Record). each emit (startsThat isSource us (s ∷ [])) (walkOf n count ws))
         (records-kept visitedAt replacedAt ws₁ ws (g .frame) n (omega arith))
-        ∙ ap (each emit (startsThat isInput rs (s ∷ []))) (g .said)
-        ∙ sym (each-append emit (startsThat isInput rs (slots s)) (startsThat isInput rs (s ∷ [])) (walkOf n 0 ws₁))
-        ∙ ap (λ (xs : List ℕ). each emit xs (walkOf n 0 ws₁)) (sym (starts-more isInput rs s));
+        ∙ ap (each emit (startsThat isSource rs (s ∷ []))) (g .said)
+        ∙ sym (each-append emit (startsThat isSource rs (slots s)) (startsThat isSource rs (s ∷ [])) (walkOf n 0 ws₁))
+        ∙ ap (λ (xs : List ℕ). each emit xs (walkOf n 0 ws₁)) (sym (starts-more isSource rs s));
     total = v .total ∙ g .total;
     new = λ u a b. v .others u (λ q. absurd (omega arith)) ∙ g .new u (omega arith) b;
     frame = within-then visitedAt replacedAt ws₁ ws ws′ (g .frame) (v .frame);
   }
 
-  pub putting-ends : n ≤ s → (ws₀ : List ℕ) → Clears n ws₀ ws₁ → PutsInputs n ws₀ ws count
+  pub putting-ends : n ≤ s → (ws₀ : List ℕ) → Clears n ws₀ ws₁ → PutsSources n ws₀ ws count
   putting-ends l ws₀ v = let few : n ≤ 512 = g .few in let q : s ≡ n = omega (arith, g .upto) in record {
-    said = g .said ∙ ap (λ (m : ℕ). each emit (startsThat isInput (recordsIn n ws₁) (slots m)) (walkOf n 0 ws₁)) q
-        ∙ ap (λ (us : List Record). each emit (startsThat isInput us (slots n)) (walkOf n 0 ws₁)) (cleared-records n ws₀ ws₁ v (omega arith))
-        ∙ ap (each emit (startsThat isInput (recordsIn n ws₀) (slots n))) (cleared-walk n ws₀ ws₁ v);
+    said = g .said ∙ ap (λ (m : ℕ). each emit (startsThat isSource (recordsIn n ws₁) (slots m)) (walkOf n 0 ws₁)) q
+        ∙ ap (λ (us : List Record). each emit (startsThat isSource us (slots n)) (walkOf n 0 ws₁)) (cleared-records n ws₀ ws₁ v (omega arith))
+        ∙ ap (each emit (startsThat isSource (recordsIn n ws₀) (slots n))) (cleared-walk n ws₀ ws₁ v);
     total = g .total;
     frame = cleared-then n ws₀ ws₁ v ws (g .frame);
   }
@@ -306,17 +306,17 @@ module _ (n cells : ℕ) (ws₀ ws : List ℕ) (count s : ℕ) (g : Appending n 
 
 -- the three parts
 iter-parts : (rs : List Record) (n : ℕ) → length (map cellOf rs) ≡ n → length (bitsIn rs) ≡ n
-    → walkFrom n (cellsBy rs) (startsThat notOutput rs (slots n)) (each emit (startsThat isInput rs (slots n)) (fresh n)) .result ++ startsThat isOutput rs (slots n)
+    → walkFrom n (cellsBy rs) (startsThat notOutput rs (slots n)) (each emit (startsThat isSource rs (slots n)) (fresh n)) .result ++ startsThat isOutput rs (slots n)
     ≡ iterCellsTopo (netlistOf rs)
 unfolding iterCellsTopo netlistOf iterCells startsThat bitsIn cellsBy
 iter-parts rs n p q = rw (iterCellsTopo, p, q)
 
-pub outputs-room : (n c i : ℕ) (xs ws₁ ws₂ ws : List ℕ) → Walks cellsBy xs n i ws₁ ws₂ c → PutsInputs n ws ws₁ i → n ≤ 512 → c + n ≤ 1024
+pub outputs-room : (n c i : ℕ) (xs ws₁ ws₂ ws : List ℕ) → Walks cellsBy xs n i ws₁ ws₂ c → PutsSources n ws ws₁ i → n ≤ 512 → c + n ≤ 1024
 outputs-room n c i xs ws₁ ws₂ ws w v few = omega (arith, v .total, walks-total cellsBy n xs i ws₁ ws₂ c w)
 
-module _ (n : ℕ) (ws ws₁ : List ℕ) (i : ℕ) (v : PutsInputs n ws ws₁ i) (long : 16384 ≤ length ws) (few : n ≤ 512) where
-  pub inputs-ready : Ready n i ws₁
-  inputs-ready = record { long = omega (arith, v .frame .same); few = omega arith; room = omega (arith, v .total) }
+module _ (n : ℕ) (ws ws₁ : List ℕ) (i : ℕ) (v : PutsSources n ws ws₁ i) (long : 16384 ≤ length ws) (few : n ≤ 512) where
+  pub sources-ready : Ready n i ws₁
+  sources-ready = record { long = omega (arith, v .frame .same); few = omega arith; room = omega (arith, v .total) }
 
   records₁ : recordsIn n ws₁ ≡ recordsIn n ws
   records₁ = records-kept visitedAt replacedAt ws ws₁ (v .frame) n (omega arith)
@@ -327,7 +327,7 @@ module _ (n : ℕ) (ws ws₁ : List ℕ) (i : ℕ) (v : PutsInputs n ws ws₁ i)
 
     walked : walkOf n c ws₂
         ≡ walkFrom n (cellsBy (recordsIn n ws)) (startsThat notOutput (recordsIn n ws) (slots n))
-        (each emit (startsThat isInput (recordsIn n ws) (slots n)) (fresh n))
+        (each emit (startsThat isSource (recordsIn n ws) (slots n)) (fresh n))
     unfolding walkFrom
     walked =
         w .said n (omega (arith, v .total))
@@ -341,7 +341,7 @@ module _ (n : ℕ) (ws ws₁ : List ℕ) (i : ℕ) (v : PutsInputs n ws ws₁ i)
     pub cells-sorted : (ws₃ : List ℕ) (r : ℕ) → Appends (startsThat isOutput (recordsIn n ws₂) (slots n)) c ws₂ ws₃ r → SortsCells n ws ws₃ r
     cells-sorted ws₃ r a = record {
       order = a .said
-          ∙ ap (λ (us : List Record). wordsIn orderAt c ws₂ ++ startsThat isOutput us (slots n)) (walks-records cellsBy n _ i ws₁ ws₂ c w inputs-ready ∙ records₁)
+          ∙ ap (λ (us : List Record). wordsIn orderAt c ws₂ ++ startsThat isOutput us (slots n)) (walks-records cellsBy n _ i ws₁ ws₂ c w sources-ready ∙ records₁)
           ∙ ap (λ (xs : List ℕ). xs ++ startsThat isOutput (recordsIn n ws) (slots n)) (result-of _ walked)
           ∙ iter-parts (recordsIn n ws) n (cells-length n ws) (bits-length n ws);
       few = omega (arith, appended-most (recordsIn n ws₂) c ws₂ ws₃ r n a, v .total, walks-total cellsBy n _ i ws₁ ws₂ c w);

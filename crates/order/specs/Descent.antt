@@ -12,7 +12,7 @@ use Rattle.cell.specs.declared.Cell.{Cell}
 use Rattle.cell.specs.declared.Cell.the-variants.{Input, Output, Buf, Not, And, Or, Xor, Mux, Aig}
 use Rattle.cell.specs.Records.{cellOf}
 use Rattle.cell.specs.Tabulate.{tabulate}
-use Rattle.netlist.specs.Shape.{visit, isInput}
+use Rattle.netlist.specs.Shape.{visit, isSource}
 use Rattle.netlist.specs.Fields.{operandAt}
 use Rattle.netlist.specs.Netlist.{netlistOf, cellIn, slots, those, anyOf, joined, drivenBy, sources, startOf, run}
 use Rattle.order.specs.declared.Operands.{Operands}
@@ -34,9 +34,9 @@ operandsOf (Aig p q) = record { 0 = net p; 1 = net q; 2 = ZERO }
 unfoldable pub fieldOperands : Record → Operands
 fieldOperands r = record { 0 = operandAt r 1; 1 = operandAt r 2; 2 = operandAt r 3 }
 
--- the bit that a net leads down to: its slot unless that is an input
+-- the bit that a net leads down to: its slot unless that is a source
 unfoldable pub bitsOf : List Record → Net → List ℕ
-bitsOf rs x = those (λ s. not (isInput (cellIn (map cellOf rs) s))) (drivenBy (driver x))
+bitsOf rs x = those (λ s. not (isSource (cellIn (map cellOf rs) s))) (drivenBy (driver x))
 
 -- the bits that operands lead down to, the last first
 unfoldable pub operandBits : List Record → Operands → List ℕ

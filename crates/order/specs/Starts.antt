@@ -8,7 +8,7 @@ use lib.ListN.{length, getD}
 use Rattle.cell.specs.declared.Record.{Record}
 use Rattle.cell.specs.declared.Cell.{Cell}
 use Rattle.cell.specs.Records.{cellOf}
-use Rattle.netlist.specs.Shape.{isInput, isOutput}
+use Rattle.netlist.specs.Shape.{isSource, isOutput}
 use Rattle.netlist.specs.Netlist.{cellIn, slots, those}
 use Rattle.netlist.specs.Areas.{recordsIn, wordsIn, Within, visitedAt, orderAt, replacedAt}
 use Rattle.order.specs.Walk.{each, fresh}
@@ -30,8 +30,8 @@ pub record Emits (items : List ℕ) (s n count : ℕ) (ws ws′ : List ℕ) (r :
   pub others : (u : ℕ) → (u ≡ s → ⊥) → visitedIn n ws′ u ≡ visitedIn n ws u
   pub frame : Within visitedAt replacedAt ws ws′
 
-pub record PutsInputs (n : ℕ) (ws ws′ : List ℕ) (r : ℕ) : Type 0 where
-  pub said : walkOf n r ws′ ≡ each emit (startsThat isInput (recordsIn n ws) (slots n)) (fresh n)
+pub record PutsSources (n : ℕ) (ws ws′ : List ℕ) (r : ℕ) : Type 0 where
+  pub said : walkOf n r ws′ ≡ each emit (startsThat isSource (recordsIn n ws) (slots n)) (fresh n)
   pub total : r + unvisitedIn n ws′ ≡ n
   pub frame : Within visitedAt replacedAt ws ws′
 

@@ -11,12 +11,12 @@ ghost use mathlib.Core.List.{[], _∷_};
 ghost use Prim.Native.Nat.{_+_, _≤_, _<_};
 ghost use lib.ListN.{length, getD};
 ghost use Rattle.cell.specs.Records.{cellOf};
-ghost use Rattle.netlist.specs.Shape.{isInput, isOutput};
+ghost use Rattle.netlist.specs.Shape.{isSource, isOutput};
 ghost use Rattle.netlist.specs.Netlist.{startOf, slots};
 ghost use Rattle.netlist.specs.Areas.{wordRecord, recordsIn};
 ghost use Rattle.order.specs.Code.{Ready, Walks, Clears, Sorts, SortsCells, visitedIn, bitsBy, cellsBy};
 ghost use Rattle.order.specs.Descent.{operandsOf, bitsOf, operandBits, bitsIn, startsOf, bitReads, readBy, depsFrom, Lowest, Lowers};
-ghost use Rattle.order.specs.Starts.{startsThat, notOutput, Emits, PutsInputs, Free, Appends};
+ghost use Rattle.order.specs.Starts.{startsThat, notOutput, Emits, PutsSources, Free, Appends};
 
 // The nets that a cell reads, by field; a constant where there is none.
 struct Operands(Net, Net, Net);
@@ -29,11 +29,11 @@ fn operands_at(work: &[u32], s: Slot) -> Operands
     Operands(fields::net_a(r), fields::net_b(r), fields::net_c(r))
 }
 
-// Whether the cell of a slot is an input.
-pub fn is_input(work: &[u32], s: Slot) -> bool
-    ensures { λ r. ⌜ r ≡ isInput (cellOf (wordRecord (now (work .entry)) (s .0))) ⌝ }
+// Whether the cell of a slot is a source.
+pub fn is_source(work: &[u32], s: Slot) -> bool
+    ensures { λ r. ⌜ r ≡ isSource (cellOf (wordRecord (now (work .entry)) (s .0))) ⌝ }
 {
-    cell::word(work, (s.0 as usize) * 4) % 256 == (kinds::INPUT as u32)
+    kinds::is_source((cell::word(work, (s.0 as usize) * 4) % 256) as u8)
 }
 
 pub fn is_output(work: &[u32], s: Slot) -> bool
@@ -99,7 +99,7 @@ fn walk_operands(work: &mut [u32], n: u32, reads: Operands, count: u32) -> u32
     walk_net(work, n, reads.0, second)
 }
 
-// Walks to the bit that drives a net; inputs are not walked to.
+// Walks to the bit that drives a net; sources are not walked to.
 fn walk_net(work: &mut [u32], n: u32, x: Net, count: u32) -> u32
     requires { ⌜ Ready n count (now work) ⌝ }
     ensures { λ r. ⌜ Walks bitsBy (bitsOf (recordsIn n (now (work .entry))) x) n count (now (work .entry)) (now (work .exit)) r ⌝ }
@@ -107,7 +107,7 @@ fn walk_net(work: &mut [u32], n: u32, x: Net, count: u32) -> u32
     match x.as_cell_index() {
         Driver::Const(_) => count,
         Driver::Cell(s) => {
-            if is_input(work, s) {
+            if is_source(work, s) {
                 return count;
             }
             walk_bit(work, n, s, count)
@@ -243,16 +243,16 @@ fn walk_deps(work: &mut [u32], n: u32, s: Slot, from: u32, count: u32) -> u32
     count
 }
 
-// Puts a slot into the order and marks it if an input starts there.
-fn put_input(work: &mut [u32], n: u32, s: Slot, count: u32) -> u32
+// Puts a slot into the order and marks it if a source starts there.
+fn put_source(work: &mut [u32], n: u32, s: Slot, count: u32) -> u32
     requires { ⌜ Ready n count (now work) ⌝ }
     requires { ⌜ visitedIn n (now work) (s .0) ≡ false ⌝ }
-    ensures { λ r. ⌜ Emits (startsThat isInput (recordsIn n (now (work .entry))) (s .0 ∷ [])) (s .0) n count (now (work .entry)) (now (work .exit)) r ⌝ }
+    ensures { λ r. ⌜ Emits (startsThat isSource (recordsIn n (now (work .entry))) (s .0 ∷ [])) (s .0) n count (now (work .entry)) (now (work .exit)) r ⌝ }
 {
     if bit_of(work, n, s) != 0 {
         return count;
     }
-    if is_input(work, s) {
+    if is_source(work, s) {
         cell::put(work, area::VISITED + (s.0 as usize), 1);
         cell::put(work, area::ORDER + (count as usize), s.0);
         return count + 1;
@@ -260,16 +260,16 @@ fn put_input(work: &mut [u32], n: u32, s: Slot, count: u32) -> u32
     count
 }
 
-fn put_inputs(work: &mut [u32], n: u32) -> u32
+fn put_sources(work: &mut [u32], n: u32) -> u32
     requires { ⌜ 16384 ≤ length (now work) ⌝ }
     requires { ⌜ n ≤ 512 ⌝ }
-    ensures { λ r. ⌜ PutsInputs n (now (work .entry)) (now (work .exit)) r ⌝ }
+    ensures { λ r. ⌜ PutsSources n (now (work .entry)) (now (work .exit)) r ⌝ }
 {
     clear_marks(work, n);
     let mut count: u32 = 0;
     let mut s: u32 = 0;
     while s < n {
-        count = put_input(work, n, Slot(s), count);
+        count = put_source(work, n, Slot(s), count);
         s += 1;
     }
     count
@@ -290,11 +290,11 @@ fn walk_start(work: &mut [u32], n: u32, s: Slot, count: u32) -> u32
     walk_cell(work, n, s, count)
 }
 
-fn walk_starts(work: &mut [u32], n: u32, inputs: u32) -> u32
-    requires { ⌜ Ready n inputs (now work) ⌝ }
-    ensures { λ r. ⌜ Walks cellsBy (startsThat notOutput (recordsIn n (now (work .entry))) (slots n)) n inputs (now (work .entry)) (now (work .exit)) r ⌝ }
+fn walk_starts(work: &mut [u32], n: u32, sources: u32) -> u32
+    requires { ⌜ Ready n sources (now work) ⌝ }
+    ensures { λ r. ⌜ Walks cellsBy (startsThat notOutput (recordsIn n (now (work .entry))) (slots n)) n sources (now (work .entry)) (now (work .exit)) r ⌝ }
 {
-    let mut count = inputs;
+    let mut count = sources;
     let mut s: u32 = 0;
     while s < n {
         count = walk_start(work, n, Slot(s), count);
@@ -339,7 +339,7 @@ pub fn iter_cells_topo(work: &mut [u32], n: u32) -> u32
     requires { ⌜ n ≤ 512 ⌝ }
     ensures { λ r. ⌜ SortsCells n (now (work .entry)) (now (work .exit)) r ⌝ }
 {
-    let inputs = put_inputs(work, n);
-    let cells = walk_starts(work, n, inputs);
+    let sources = put_sources(work, n);
+    let cells = walk_starts(work, n, sources);
     put_outputs(work, n, cells)
 }

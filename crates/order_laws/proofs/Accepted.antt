@@ -11,29 +11,29 @@ use lib.ListN.{length, length-map}
 use borrow.Author.Tests.{ltb-true, not-false}
 use Rattle.value.specs.declared.Slot.{Slot}
 use Rattle.value.specs.declared.Driver.the-variants as driven
+use Rattle.value.specs.Value.{netAt, driver}
 use Rattle.cell.specs.declared.Record.{Record}
-use Rattle.cell.specs.declared.Edge.the-variants.{To}
 use Rattle.cell.specs.declared.Cell.the-variants.{Input}
 use Rattle.kinds.specs.Kinds.{kindOf}
-use Rattle.cell.specs.Operands.{edgeAt}
+use Rattle.cell.specs.Operands.{fieldOf, isOperand}
 use Rattle.cell.specs.Records.{recordOf, recordIn, cellOf}
 use Rattle.loops.specs.Reach.{OnLoop, onLoop}
-use Rattle.loops.proofs.Edges.{edge-field}
 use Rattle.loops.proofs.Rank.{rank, rank-falls, no-loop-below}
 use Rattle.checking.specs.declared.Verdict.the-variants.{Pass}
 use Rattle.checking.specs.Refusals.{firstOf}
 use Rattle.checking.specs.Checking.{unknownKind, reservedField, bitOutOfSequence, undriven, undrivenField, undrivenOperand, netlistStages}
 use Rattle.checking.proofs.Groups.{kind-exactly, field-exactly, bit-exactly, operand-exactly, records-exactly, loops-exactly, netlist-exactly}
-use Rattle.netlist.specs.Shape.{visit, isOutput}
+use Rattle.netlist.specs.Shape.{visit, combReads, isOutput}
 use Rattle.netlist.specs.Netlist.{cellIn}
 use Rattle.netlist.proofs.Cells.{output-kind}
 use Rattle.order_laws.specs.Members.{All, Drives, Wired}
 use Rattle.order_laws.proofs.Truth.{neither}
 use Rattle.order_laws.proofs.Lists.{getD-mapped}
-use Rattle.order_laws.proofs.Edges.{edge-to, edge-from, operands-by}
+use Rattle.order_laws.proofs.Operands.{comb-by}
+use Rattle.order_laws.proofs.Edges.{operand-field, other-edge, operands-by}
 
 module _ (rs : List Record) where
-  -- 7: an edge leads to a record, and to no output
+  -- 7: an operand names a record, and no output
   abbrev pub Tight : ℕ → Type 0
   Tight x = (x < length rs) × (eqb (recordIn rs x .kind) 2 ≡ false)
 
@@ -42,15 +42,15 @@ module _ (rs : List Record) where
       let g = neither (not (ltb (x .0) (length rs))) _ e in
       (ltb-true (x .0) (length rs) (not-false (ltb (x .0) (length rs)) (g .0)), g .1)
 
-  edge-tight : (r : Record) (f : ℕ) (x : Slot) → undrivenOperand rs r ≡ false → edgeAt r f ≡ To x → Tight (x .0)
+  operand-tight : (r : Record) (f : ℕ) (x : Slot) → undrivenOperand rs r ≡ false → isOperand r f ≡ true → driver (netAt (fieldOf r f)) ≡ driven.Cell x
+      → Tight (x .0)
   unfolding undrivenOperand undrivenField
-  edge-tight r f x e q =
-      let d = edge-from r f x q in
+  operand-tight r f x e o d =
       let g₁ = neither (undrivenField rs r 1) _ e in
       let g₂ = neither (undrivenField rs r 2) _ (g₁ .1) in
       let at : (k : ℕ) → undrivenField rs r k ≡ false → f ≡ k → Tight (x .0) =
-      λ k h z. slot-tight x (sym (ap₂ (λ b y. b && undriven rs y) (d .0) (d .1)) ∙ subst (λ (j : ℕ). undrivenField rs r j ≡ false) (sym z) h) in
-      ⊎-elim (at 1 (g₁ .0)) (⊎-elim (at 2 (g₂ .0)) (at 3 (g₂ .1))) (edge-field r f x q)
+      λ k h z. slot-tight x (sym (ap₂ (λ b y. b && undriven rs y) o d) ∙ subst (λ (j : ℕ). undrivenField rs r j ≡ false) (sym z) h) in
+      ⊎-elim (at 1 (g₁ .0)) (⊎-elim (at 2 (g₂ .0)) (at 3 (g₂ .1))) (operand-field r f o)
 
   module _ (pass : firstOf (netlistStages rs) ≡ Pass) where
     pub record Passed (s : ℕ) : Type 0 where
@@ -79,25 +79,28 @@ module _ (rs : List Record) where
     no-loop : (s : ℕ) → OnLoop rs s → ⊥
     no-loop = no-loop-below rs (λ i l. passed i l .loops)
 
-    -- the slots of each operand, by the edges
-    pub passed-operands : (Q : ℕ → Type 0) (s : ℕ) → s < length rs → ((f : ℕ) (x : Slot) → edgeAt (recordIn rs s) f ≡ To x → Tight (x .0) → Q (x .0))
-        → All (Drives Q) (visit (cellIn (map cellOf rs) s))
+    -- the slots of each operand, by the fields
+    passed-operands : (Q : ℕ → Type 0) (s : ℕ) → s < length rs
+        → ((f : ℕ) (x : Slot) → isOperand (recordIn rs s) f ≡ true → driver (netAt (fieldOf (recordIn rs s) f)) ≡ driven.Cell x → Tight (x .0) → Q (x .0))
+        → All (Drives Q) (visit (cellOf (recordIn rs s)))
     passed-operands Q s l h =
-        let r : Record = recordIn rs s in
-        rw (getD-mapped cellOf rs s (recordOf 0 0 0 0 0 0) (Input 0) l)
-        (operands-by (Drives Q) r (passed-known s l)
-        (λ f e x d. let q : edgeAt r f ≡ To x = edge-to r f x e d in h f x q (edge-tight r f x (passed s l .operands) q)))
+        operands-by (Drives Q) (recordIn rs s) (passed-known s l)
+        (λ f e x d. h f x e d (operand-tight (recordIn rs s) f x (passed s l .operands) e d))
 
     pub passed-ranked : (s : ℕ) → s < length rs
-        → All (Drives (λ x. (x < length (map cellOf rs)) × (rank rs x < rank rs s))) (visit (cellIn (map cellOf rs) s))
+        → All (Drives (λ x. (x < length (map cellOf rs)) × (rank rs x < rank rs s))) (combReads (cellIn (map cellOf rs) s))
     passed-ranked s l =
-        passed-operands (λ x. (x < length (map cellOf rs)) × (rank rs x < rank rs s)) s l
-        (λ f x q t. (omega (arith, t .0, length-map rs cellOf), rank-falls rs no-loop s f x q))
+        let Q : ℕ → Type 0 = λ x. (x < length (map cellOf rs)) × (rank rs x < rank rs s) in
+        rw (getD-mapped cellOf rs s (recordOf 0 0 0 0 0 0) (Input 0) l)
+        (comb-by (Drives Q) (cellOf (recordIn rs s)) (λ o.
+        passed-operands Q s l (λ f x e d t.
+        (omega (arith, t .0, length-map rs cellOf), rank-falls rs no-loop s f x (other-edge (recordIn rs s) f x o e d)))))
 
     pub passed-wired : (s : ℕ) → s < length rs → All (Wired (map cellOf rs)) (visit (cellIn (map cellOf rs) s))
     passed-wired s l =
-        passed-operands (λ x. (x < length (map cellOf rs)) × (isOutput (cellIn (map cellOf rs) x) ≡ false)) s l
-        (λ f x q t. (
+        rw (getD-mapped cellOf rs s (recordOf 0 0 0 0 0 0) (Input 0) l)
+        (passed-operands (λ x. (x < length (map cellOf rs)) × (isOutput (cellIn (map cellOf rs) x) ≡ false)) s l
+        (λ f x e d t. (
           omega (arith, t .0, length-map rs cellOf),
           ap isOutput (getD-mapped cellOf rs (x .0) (recordOf 0 0 0 0 0 0) (Input 0) (t .0)) ∙ output-kind (recordIn rs (x .0)) ∙ t .1,
-        ))
+        )))

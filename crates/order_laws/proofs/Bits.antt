@@ -1,23 +1,26 @@
 -- The bit order: each bit once, and after the bits that it reads where a rank falls along them. Assumes nothing.
-use mathlib.Core.Path.{_≡_, refl, sym, ap, _∙_}
-use mathlib.Core.Bool.{Bool, true, false, not, _||_}
+use mathlib.Core.Path.{_≡_, refl, sym, ap, _∙_, subst}
+use mathlib.Core.Bool.{Bool, true, false, cond, not, _||_}
 use mathlib.Core.List.{List, [], _∷_, _++_, reverse, reverseAux}
-use Prim.Native.Nat.{ℕ, _<_}
+use Prim.Native.Nat.{ℕ, zero, suc, _+_, _<_}
 use native.Mathlib.Omega.{arith}
 use native.Mathlib.Decide.{decLt}
 use lib.Dec.{eqb}
 use lib.ListN.{length, List·getD-eq-default}
+use borrow.Author.Tests.{eqb-true, eqb-false, not-true}
 use Rattle.value.specs.declared.Net.{Net}
 use Rattle.cell.specs.declared.Cell.{Cell}
 use Rattle.cell.specs.declared.Cell.the-variants.{Input}
-use Rattle.netlist.specs.Shape.{visit, isInput}
+use Rattle.netlist.specs.Shape.{visit, isSource, combReads}
 use Rattle.netlist.specs.Netlist.{cellIn, slots, sources}
 use Rattle.order.specs.Orders.{bitDeps, topoSort}
 use Rattle.order_laws.specs.Ordered.{has, FedAfter, Each}
 use Rattle.order_laws.specs.Members.{All, Drives}
-use Rattle.order_laws.proofs.Members.{has-slots, has-passing, those-has}
+use Rattle.order_laws.proofs.Truth.{either, and-both}
+use Rattle.order_laws.proofs.Members.{has-slots, has-passing, has-those, those-has}
 use Rattle.order_laws.proofs.Walks.{walk-each, walk-ordered}
-use Rattle.order_laws.proofs.Operands.{all-sources, input-reads, sources-all}
+use Rattle.order_laws.proofs.Operands.{all-sources, all-comb, input-reads, sources-all}
+use Rattle.order_laws.proofs.Sorts.{other-inside}
 
 or-swap : (a b c : Bool) → (a || (b || c)) ≡ (b || a || c)
 or-swap true true c = refl
@@ -58,19 +61,56 @@ topoSort-fed cs rank falls =
     (λ s d h. falls s d (sym (has-reverse d (bitDeps cs s)) ∙ h)))
 
 -- what holds of each slot that drives an operand holds of each bit that a bit depends on
-pub deps-have : (P : ℕ → Type 0) (cs : List Cell) (s : ℕ) → (s < length cs → All (Drives P) (visit (cellIn cs s))) → (d : ℕ) → has d (bitDeps cs s) ≡ true → P d
+deps-have : (P : ℕ → Type 0) (cs : List Cell) (s : ℕ) → (s < length cs → All (Drives P) (visit (cellIn cs s))) → (d : ℕ) → has d (bitDeps cs s) ≡ true → P d
 unfolding bitDeps
 deps-have P cs s h d e =
-    sources-all P (visit (cellIn cs s)) (go (decLt s (length cs))) d (those-has (λ x. not (isInput (cellIn cs x))) (sources (visit (cellIn cs s))) d e)
+    sources-all P (visit (cellIn cs s)) (go (decLt s (length cs))) d (those-has (λ x. not (isSource (cellIn cs x))) (sources (visit (cellIn cs s))) d e)
   where
     go : Dec (s < length cs) → All (Drives P) (visit (cellIn cs s))
     go (yes l) = h l
     go (no l) = rw (List·getD-eq-default cs (Input 0) {n = s} (omega arith)) (input-reads (Drives P) (Input 0) refl)
 
--- and each slot that drives an operand is an input or one of those bits
-pub reads-deps : (cs : List Cell) (s : ℕ) → All (Drives (λ x. isInput (cellIn cs x) ≡ false → has x (bitDeps cs s) ≡ true)) (visit (cellIn cs s))
+-- and each slot that drives an operand is a source or one of those bits
+pub reads-deps : (cs : List Cell) (s : ℕ) → All (Drives (λ x. isSource (cellIn cs x) ≡ false → has x (bitDeps cs s) ≡ true)) (visit (cellIn cs s))
 unfolding bitDeps
 reads-deps cs s =
     let ns : List Net = visit (cellIn cs s) in
-    all-sources (λ x. isInput (cellIn cs x) ≡ false → has x (bitDeps cs s) ≡ true) ns
-    (λ x h i. has-passing (λ y. not (isInput (cellIn cs y))) (sources ns) x h (ap not i))
+    all-sources (λ x. isSource (cellIn cs x) ≡ false → has x (bitDeps cs s) ≡ true) ns
+    (λ x h i. has-passing (λ y. not (isSource (cellIn cs y))) (sources ns) x h (ap not i))
+
+-- none of those bits is a source
+deps-other : (cs : List Cell) (s d : ℕ) → has d (bitDeps cs s) ≡ true → isSource (cellIn cs d) ≡ false
+unfolding bitDeps
+deps-other cs s d e =
+    let ns : List ℕ = sources (visit (cellIn cs s)) in
+    not-true (isSource (cellIn cs d)) (and-both (has d ns) _ (sym (has-those (λ x. not (isSource (cellIn cs x))) ns d) ∙ e) .1)
+
+-- a number above the ranks of the first n slots
+unfoldable pub above : (ℕ → ℕ) → ℕ → ℕ
+above rank zero = 0
+above rank (suc n) = above rank n + suc (rank n)
+
+above-each : (rank : ℕ → ℕ) (n s : ℕ) → s < n → rank s < above rank n
+unfolding above
+above-each rank zero s l = absurd (omega arith)
+above-each rank (suc n) s l =
+    either (eqb s n)
+    (λ e. let q : rank s ≡ rank n = ap rank (eqb-true s n e) in omega arith)
+    (λ e. let h : rank s < above rank n = above-each rank n s (omega (arith, eqb-false s n e)) in omega arith)
+
+-- a rank with the sources above all others. Where the rank falls along what each cell reads within a tick, this one falls along the bits
+-- that a bit depends on: no bit depends on a source
+unfoldable pub sourcesLast : List Cell → (ℕ → ℕ) → ℕ → ℕ
+sourcesLast cs rank s = cond (isSource (cellIn cs s)) (above rank (length cs)) (rank s)
+
+pub deps-fall : (cs : List Cell) (rank : ℕ → ℕ) → ((s : ℕ) → s < length cs → All (Drives (λ x. rank x < rank s)) (combReads (cellIn cs s)))
+    → (s d : ℕ) → has d (bitDeps cs s) ≡ true → sourcesLast cs rank d < sourcesLast cs rank s
+unfolding sourcesLast
+deps-fall cs rank ranked s d h =
+    let o : isSource (cellIn cs d) ≡ false = deps-other cs s d h in
+    let F : Bool → Bool → Type 0 = λ (a b : Bool). cond a (above rank (length cs)) (rank d) < cond b (above rank (length cs)) (rank s) in
+    subst (λ (a : Bool). F a (isSource (cellIn cs s))) (sym o)
+    (either (isSource (cellIn cs s))
+    (λ e. subst (F false) (sym e) (above-each rank (length cs) d (other-inside cs d o)))
+    (λ e. subst (F false) (sym e)
+    (deps-have (λ x. rank x < rank s) cs s (λ l. all-comb (Drives (λ x. rank x < rank s)) (cellIn cs s) e (ranked s l)) d h)))

@@ -8,7 +8,7 @@ use lib.Dec.{eqb}
 use lib.ListN.{length, getD}
 use lib.Seq.{getD-set-other}
 use Rattle.cell.specs.Tabulate.{tabulate}
-use Rattle.netlist.specs.Shape.{isInput, isOutput}
+use Rattle.netlist.specs.Shape.{isSource, isOutput}
 use Rattle.netlist.specs.Netlist.{Netlist, cellIn, slots, those, iterCells, cellDeps}
 use Rattle.order.specs.Walk.{Walk, isVisited, mark, each, walk, fresh, walkFrom}
 use Rattle.order.specs.Orders.{emit, iterCellsTopo}
@@ -17,7 +17,7 @@ use Rattle.order_laws.specs.Members.{All}
 use Rattle.order_laws.proofs.Truth.{either, never, or-left, or-right, or-none, and-both}
 use Rattle.order_laws.proofs.Members.{all-has, has-first, has-later, has-append, has-snoc-same, has-snoc-other, has-snoc-old, slots-small, has-those, those-has}
 use Rattle.order_laws.proofs.Lists.{getD-any, getD-same}
-use Rattle.order_laws.proofs.Sorts.{input-no-output}
+use Rattle.order_laws.proofs.Sorts.{source-no-output}
 use Rattle.order_laws.proofs.Walks.{Inv, goes-none, goes-on, Went, WentAll, went-none, went-then, each-went, mark-inv, push-went, walk-went, fresh-inv, fresh-new, count-replicate, once-not, once-snoc}
 use Rattle.order_laws.proofs.Closed.{Only, mark-only, each-only, walk-only}
 
@@ -37,7 +37,7 @@ once-both before (x ∷ xs) ys o f p =
     (o .0, once-both (before ++ (x ∷ [])) xs ys (o .1) (λ y e. rw (append-assoc before (x ∷ []) xs) (f y e)) p)
 
 module _ (n : ℕ) (deps : ℕ → List ℕ) where
-  -- inputs are marked and put down one after another
+  -- sources are marked and put down one after another
   emit-went : (s : ℕ) (w : Walk) → Inv n w → isVisited w s ≡ false → Went n deps s w (emit s w)
   emit-went s w i new = push-went n deps s w (mark s w) i new (mark-inv n deps s w i new) (goes-none (mark s w))
 
@@ -53,21 +53,21 @@ module _ (n : ℕ) (deps : ℕ → List ℕ) where
       (λ q. never e (once-not (before ++ (s ∷ [])) ss x (o .1) (ap (λ y. has y (before ++ (s ∷ []))) q ∙ has-snoc-same before s)))
       ∙ f x (has-later x s ss e)))
 
-  -- inputs first, then a walk from the others: each of them once, and nothing else
-  module _ (inputs others : List ℕ) (once : OnceAfter [] inputs) (small : (x : ℕ) → (has x inputs || has x others) ≡ true → x < n)
-      (depend : (s x : ℕ) → has x (deps s) ≡ true → (has x inputs || has x others) ≡ true) where
+  -- some first, then a walk from the others: each of them once, and nothing else
+  module _ (firsts others : List ℕ) (once : OnceAfter [] firsts) (small : (x : ℕ) → (has x firsts || has x others) ≡ true → x < n)
+      (depend : (s x : ℕ) → has x (deps s) ≡ true → (has x firsts || has x others) ≡ true) where
     abbrev p : ℕ → Bool
-    p x = has x inputs || has x others
+    p x = has x firsts || has x others
 
     abbrev w₁ : Walk
-    w₁ = each emit inputs (fresh n)
+    w₁ = each emit firsts (fresh n)
 
     abbrev w₂ : Walk
     w₂ = walkFrom n deps others w₁
 
-    first-part : WentAll n deps inputs (fresh n) w₁
+    first-part : WentAll n deps firsts (fresh n) w₁
     first-part =
-        emit-all [] inputs (fresh n) (fresh-inv n deps) once (λ s e. fresh-new n deps s (small s (or-left (has s inputs) (has s others) e)))
+        emit-all [] firsts (fresh n) (fresh-inv n deps) once (λ s e. fresh-new n deps s (small s (or-left (has s firsts) (has s others) e)))
 
     second-part : WentAll n deps others w₁ w₂
     unfolding walkFrom
@@ -83,17 +83,17 @@ module _ (n : ℕ) (deps : ℕ → List ℕ) where
     only-these : Only deps P closed w₂
     unfolding walkFrom
     only-these =
-        each-only deps P closed (walk n deps) (walk-only deps P closed n) others (all-has P others (λ d e. or-right (has d inputs) (has d others) e)) w₁
-        (each-only deps P closed emit (mark-only deps P closed) inputs (all-has P inputs (λ d e. or-left (has d inputs) (has d others) e)) (fresh n)
+        each-only deps P closed (walk n deps) (walk-only deps P closed n) others (all-has P others (λ d e. or-right (has d firsts) (has d others) e)) w₁
+        (each-only deps P closed emit (mark-only deps P closed) firsts (all-has P firsts (λ d e. or-left (has d firsts) (has d others) e)) (fresh n)
         (λ x v. never v (getD-same n x false)))
 
     pub walked-once : OnceAfter [] (w₂ .result)
     walked-once = second-part .inv .once
 
     reached : (x : ℕ) → p x ≡ true → isVisited w₂ x ≡ true
-    reached x e = either (has x inputs)
+    reached x e = either (has x firsts)
         (λ g. second-part .goes .grown x (first-part .there x g))
-        (λ g. second-part .there x (sym (or-none (has x inputs) (has x others) g) ∙ e))
+        (λ g. second-part .there x (sym (or-none (has x firsts) (has x others) g) ∙ e))
 
     pub walked-all : (x : ℕ) → has x (w₂ .result) ≡ p x
     walked-all x = either (p x)
@@ -131,8 +131,8 @@ module _ (d : Netlist) (sizes : length (d .bits) ≡ length (d .cells)) where
   abbrev starts : List ℕ
   starts = iterCells (d .bits)
 
-  abbrev inputs : List ℕ
-  inputs = those (λ s. isInput (cellIn (d .cells) s)) starts
+  abbrev firsts : List ℕ
+  firsts = those (λ s. isSource (cellIn (d .cells) s)) starts
 
   abbrev others : List ℕ
   others = those (λ s. not (isOutput (cellIn (d .cells) s))) starts
@@ -149,10 +149,10 @@ module _ (d : Netlist) (sizes : length (d .bits) ≡ length (d .cells)) where
   starts-small x h =
       omega (arith, sizes, slots-small (length (d .bits)) x (those-has (λ s. eqb (getD (d .bits) s 0) 0) (slots (length (d .bits))) x h))
 
-  parts : (x : ℕ) → ((has x inputs || has x others) ≡ (has x starts && not (isOutput (cellIn (d .cells) x)))) × (has x outputs ≡ (has x starts && isOutput (cellIn (d .cells) x)))
+  parts : (x : ℕ) → ((has x firsts || has x others) ≡ (has x starts && not (isOutput (cellIn (d .cells) x)))) × (has x outputs ≡ (has x starts && isOutput (cellIn (d .cells) x)))
   parts x = (
-    go (has x starts) (isInput (cellIn (d .cells) x)) (isOutput (cellIn (d .cells) x)) (input-no-output (cellIn (d .cells) x))
-        (has x inputs) (has x others) (has-those (λ s. isInput (cellIn (d .cells) s)) starts x) (has-those (λ s. not (isOutput (cellIn (d .cells) s))) starts x),
+    go (has x starts) (isSource (cellIn (d .cells) x)) (isOutput (cellIn (d .cells) x)) (source-no-output (cellIn (d .cells) x))
+        (has x firsts) (has x others) (has-those (λ s. isSource (cellIn (d .cells) s)) starts x) (has-those (λ s. not (isOutput (cellIn (d .cells) s))) starts x),
     has-those (λ s. isOutput (cellIn (d .cells) s)) starts x,
   )
     where
@@ -166,22 +166,22 @@ module _ (d : Netlist) (sizes : length (d .bits) ≡ length (d .cells)) where
 
   module _ (depend : (s x : ℕ) → has x (cellDeps d s) ≡ true → has x others ≡ true) where
     abbrev reachable : ℕ → Bool
-    reachable x = has x inputs || has x others
+    reachable x = has x firsts || has x others
 
     reachable-small : (x : ℕ) → reachable x ≡ true → x < length (d .cells)
     reachable-small x e = starts-small x (and-both (has x starts) _ (sym (parts x .0) ∙ e) .0)
 
-    inputs-once : OnceAfter [] inputs
-    inputs-once = once-those (λ s. isInput (cellIn (d .cells) s)) [] [] starts (λ x e. e) starts-once
+    firsts-once : OnceAfter [] firsts
+    firsts-once = once-those (λ s. isSource (cellIn (d .cells) s)) [] [] starts (λ x e. e) starts-once
 
     reads : (s x : ℕ) → has x (cellDeps d s) ≡ true → reachable x ≡ true
-    reads s x e = or-right (has x inputs) (has x others) (depend s x e)
+    reads s x e = or-right (has x firsts) (has x others) (depend s x e)
 
     abbrev walkedCells : List ℕ
-    walkedCells = walkFrom (length (d .cells)) (cellDeps d) others (each emit inputs (fresh (length (d .cells)))) .result
+    walkedCells = walkFrom (length (d .cells)) (cellDeps d) others (each emit firsts (fresh (length (d .cells)))) .result
 
     members : (x : ℕ) → has x walkedCells ≡ reachable x
-    members = walked-all (length (d .cells)) (cellDeps d) inputs others inputs-once reachable-small reads
+    members = walked-all (length (d .cells)) (cellDeps d) firsts others firsts-once reachable-small reads
 
     apart : (a o u v : Bool) → u ≡ (a && not o) → v ≡ (a && o) → v ≡ true → u ≡ false
     apart true true u v e f g = e
@@ -191,7 +191,7 @@ module _ (d : Netlist) (sizes : length (d .bits) ≡ length (d .cells)) where
     pub iterCellsTopo-once : OnceAfter [] (iterCellsTopo d)
     unfolding iterCellsTopo
     iterCellsTopo-once =
-        once-both [] walkedCells outputs (walked-once (length (d .cells)) (cellDeps d) inputs others inputs-once reachable-small reads)
+        once-both [] walkedCells outputs (walked-once (length (d .cells)) (cellDeps d) firsts others firsts-once reachable-small reads)
         (λ x e. apart (has x starts) (isOutput (cellIn (d .cells) x)) (has x walkedCells) (has x outputs) (members x ∙ parts x .0) (parts x .1) e)
         (once-those (λ s. isOutput (cellIn (d .cells) s)) [] [] starts (λ x e. e) starts-once)
 

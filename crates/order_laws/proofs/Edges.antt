@@ -1,10 +1,11 @@
 -- The operands of a cell by the fields of its record, and the combinational edges that they are. Assumes nothing.
-use mathlib.Core.Path.{_≡_, refl, sym, subst}
+use mathlib.Core.Path.{_≡_, refl, sym, ap, _∙_, subst}
 use mathlib.Core.Bool.{true, false≢true, Bool, false, cond}
-use mathlib.Core.Logic.{⊎-elim}
+use mathlib.Core.Logic.{_⊎_, inl, inr, ⊎-elim}
 use Prim.Native.Nat.{ℕ, zero, suc, _/_, _%_, _-_}
 use native.Mathlib.Omega.{arith}
 use lib.Dec.{eqb}
+use borrow.Author.Tests.{eqb-true}
 use Rattle.value.specs.declared.Net.{Net}
 use Rattle.value.specs.declared.Driver.{Driver}
 use Rattle.value.specs.declared.Driver.the-variants as driven
@@ -20,9 +21,11 @@ use Rattle.cell.specs.Records.{recordOf, cellOf, cellRecord}
 use Rattle.cell.specs.declared.Edge.the-variants.{To, Nowhere}
 use Rattle.cell.proofs.RoundTrips.{cell-back}
 use Rattle.loops.proofs.Edges.{edge-field}
-use Rattle.netlist.specs.Shape.{visit}
+use Rattle.netlist.specs.Shape.{visit, isSource, combReads}
 use Rattle.order_laws.specs.Members.{All, Drives}
+use Rattle.order_laws.proofs.Truth.{either}
 use Rattle.order_laws.proofs.Sorts.{kind-known}
+use Rattle.order_laws.proofs.Operands.{comb-by, all-comb}
 
 -- what is said of each operand field of a record is said of each operand of its cell
 abbrev pub FieldHas : (Net → Type 0) → Record → ℕ → Type 0
@@ -69,13 +72,30 @@ fields-have P bit (Xor a b) h = ((λ e. h .0), (λ e. h .1 .0), clash)
 fields-have P bit (Mux a b c) h = ((λ e. h .0), (λ e. h .1 .0), (λ e. h .1 .1 .0))
 fields-have P bit (Aig p q) h = ((λ e. h .0), (λ e. h .1 .0), clash)
 
+-- fields 1, 2 and 3 alone are operands
+pub operand-field : (r : Record) (f : ℕ) → isOperand r f ≡ true → (f ≡ 1) ⊎ ((f ≡ 2) ⊎ (f ≡ 3))
+unfolding isOperand useOf
+operand-field r f o = go (eqb f 1) (eqb f 2) (eqb f 3) refl refl refl
+  where
+    go : (a b c : Bool) → eqb f 1 ≡ a → eqb f 2 ≡ b → eqb f 3 ≡ c → (f ≡ 1) ⊎ ((f ≡ 2) ⊎ (f ≡ 3))
+    go true b c p q s = inl (eqb-true f 1 p)
+    go false true c p q s = inr (inl (eqb-true f 2 q))
+    go false false true p q s = inr (inr (eqb-true f 3 s))
+    go false false false p q s = let none : isOperand r f ≡ false = rw (p, q, s) in clash (sym none ∙ o)
+
 -- an edge by a field whose operand a slot drives
-pub edge-to : (r : Record) (f : ℕ) (x : Slot) → isOperand r f ≡ true → driver (netAt (fieldOf r f)) ≡ driven.Cell x → edgeAt r f ≡ To x
-unfolding edgeAt isCombEdge
+edge-to : (r : Record) (f : ℕ) (x : Slot) → isCombEdge r f ≡ true → driver (netAt (fieldOf r f)) ≡ driven.Cell x → edgeAt r f ≡ To x
+unfolding edgeAt
 edge-to r f x e d = rw (e, d)
 
+-- each operand of what is no source is one
+pub other-edge : (r : Record) (f : ℕ) (x : Slot) → isSource (cellOf r) ≡ false → isOperand r f ≡ true → driver (netAt (fieldOf r f)) ≡ driven.Cell x
+    → edgeAt r f ≡ To x
+unfolding isCombEdge
+other-edge r f x o e d = edge-to r f x e d
+
 -- and the operand in the field by which an edge leads on
-pub edge-from : (r : Record) (f : ℕ) (x : Slot) → edgeAt r f ≡ To x → (isOperand r f ≡ true) × (driver (netAt (fieldOf r f)) ≡ driven.Cell x)
+edge-from : (r : Record) (f : ℕ) (x : Slot) → edgeAt r f ≡ To x → (isOperand r f ≡ true) × (driver (netAt (fieldOf r f)) ≡ driven.Cell x)
 unfolding edgeAt isCombEdge
 edge-from r f x e = go (isOperand r f) (driver (netAt (fieldOf r f))) refl refl e
   where
@@ -85,13 +105,45 @@ edge-from r f x e = go (isOperand r f) (driver (netAt (fieldOf r f))) refl refl 
     go true (driven.Const t) p q e = let z : _≡_ {A = ℕ} 0 1 = cc in absurd (omega arith)
     go true (driven.Cell y) p q e = (p, cc)
 
+-- no edge leaves a source
+no-field : {A : Type 0} (r : Record) (f : ℕ) (x : Slot) → isCombEdge r f ≡ false → edgeAt r f ≡ To x → A
+unfolding edgeAt
+no-field r f x n e = let z : Nowhere ≡ To x = sym (ap (λ (b : Bool). cond b (edgeOf (driver (netAt (fieldOf r f)))) Nowhere) n) ∙ e in
+    let w : _≡_ {A = ℕ} 0 1 = cc in absurd (omega arith)
+
+source-fields : (bit : ℕ) (c : Cell) → isSource c ≡ true
+    → (isCombEdge (cellRecord bit c) 1 ≡ false) × (isCombEdge (cellRecord bit c) 2 ≡ false) × (isCombEdge (cellRecord bit c) 3 ≡ false)
+unfolding isCombEdge isOperand useOf kindOf cellRecord
+source-fields bit (Input l) e = (refl, refl, refl)
+source-fields bit (Output a l) e = clash e
+source-fields bit (Buf a) e = clash e
+source-fields bit (Not a) e = clash e
+source-fields bit (And a b) e = clash e
+source-fields bit (Or a b) e = clash e
+source-fields bit (Xor a b) e = clash e
+source-fields bit (Mux a b c) e = clash e
+source-fields bit (Aig p q) e = clash e
+
+source-edge : {A : Type 0} (bit : ℕ) (c : Cell) → isSource c ≡ true → (f : ℕ) (x : Slot) → edgeAt (cellRecord bit c) f ≡ To x → A
+source-edge {A} bit c s f x e =
+    let r : Record = cellRecord bit c in
+    let g = source-fields bit c s in
+    let at : (k : ℕ) → isCombEdge r k ≡ false → f ≡ k → A = λ k n q. no-field r k x n (subst (λ (j : ℕ). edgeAt r j ≡ To x) q e) in
+    ⊎-elim (at 1 (g .0)) (⊎-elim (at 2 (g .1)) (at 3 (g .2))) (edge-field r f x e)
+
+-- the edges of a cell's record are what the cell reads within a tick
 module _ (Q : ℕ → Type 0) (bit : ℕ) (c : Cell) where
-  pub edges-have : All (Drives Q) (visit c) → (f : ℕ) (x : Slot) → edgeAt (cellRecord bit c) f ≡ To x → Q (x .0)
-  edges-have h f x e =
+  other-have : All (Drives Q) (visit c) → (f : ℕ) (x : Slot) → edgeAt (cellRecord bit c) f ≡ To x → Q (x .0)
+  other-have h f x e =
       let g = fields-have (Drives Q) bit c h in
       let at : (k : ℕ) → FieldHas (Drives Q) (cellRecord bit c) k → f ≡ k → Q (x .0) =
       λ k p q. let d = edge-from (cellRecord bit c) k x (subst (λ (j : ℕ). edgeAt (cellRecord bit c) j ≡ To x) q e) in p (d .0) x (d .1) in
       ⊎-elim (at 1 (g .0)) (⊎-elim (at 2 (g .1)) (at 3 (g .2))) (edge-field (cellRecord bit c) f x e)
 
-  pub have-edges : ((f : ℕ) (x : Slot) → edgeAt (cellRecord bit c) f ≡ To x → Q (x .0)) → All (Drives Q) (visit c)
-  have-edges h = operands-have (Drives Q) bit c (λ f e x d. h f x (edge-to (cellRecord bit c) f x e d))
+  pub edges-have : All (Drives Q) (combReads c) → (f : ℕ) (x : Slot) → edgeAt (cellRecord bit c) f ≡ To x → Q (x .0)
+  edges-have h f x e = either (isSource c) (λ s. source-edge bit c s f x e) (λ s. other-have (all-comb (Drives Q) c s h) f x e)
+
+  pub have-edges : ((f : ℕ) (x : Slot) → edgeAt (cellRecord bit c) f ≡ To x → Q (x .0)) → All (Drives Q) (combReads c)
+  have-edges h =
+      comb-by (Drives Q) c
+      (λ s. operands-have (Drives Q) bit c (λ f e x d. h f x (other-edge (cellRecord bit c) f x (ap isSource (cell-back bit c) ∙ s) e d)))

@@ -1,6 +1,6 @@
 -- What a cell reads: its operands, the fields that name them, and the slots that drive them. Assumes nothing.
 use mathlib.Core.Path.{_≡_, refl, sym, ap, ap₂, _∙_, subst}
-use mathlib.Core.Bool.{true, false≢true}
+use mathlib.Core.Bool.{true, false, false≢true}
 use mathlib.Core.List.{List, [], _∷_, map}
 use Prim.Native.Nat.{ℕ, _≤_}
 use native.Mathlib.Omega.{arith}
@@ -17,12 +17,14 @@ use Rattle.value.specs.Value.{slotAt, driver, net}
 use Rattle.value.proofs.Laws.{driver-cell}
 use Rattle.cell.specs.declared.Cell.{Cell}
 use Rattle.cell.specs.declared.Cell.the-variants.{Input, Output, Buf, Not, And, Or, Xor, Mux, Aig}
-use Rattle.netlist.specs.Shape.{visit, visitControl, visitMut, isInput}
+use Rattle.netlist.specs.Shape.{visit, visitControl, visitMut, isInput, isSource, combReads}
 use Rattle.netlist.specs.Netlist.{Netlist, cellIn, slots, those, anyOf, joined, drivenBy, sources, startOf, outputOf, cellDeps}
+use Rattle.netlist.proofs.Sources.{other-comb, source-comb}
 use Rattle.design.specs.Queue.{netIn}
 use Rattle.order_laws.specs.Ordered.{has}
 use Rattle.order_laws.specs.Members.{All, Drives}
-use Rattle.order_laws.proofs.Truth.{or-left, or-right}
+use Rattle.order_laws.proofs.Truth.{either, or-left, or-right}
+use Rattle.order_laws.proofs.Sorts.{source-mapped}
 use Rattle.order_laws.proofs.Members.{all-imp, all-map, all-unmap, all-append, all-joined, has-first, has-all, has-append, has-any, those-pass}
 
 -- a function put to each operand
@@ -48,6 +50,25 @@ module _ (P : Net → Type 0) (f : Net → Net) (c : Cell) where
 
   pub all-visited : All P (visit (visitMut f c)) → All (λ n. P (f n)) (visit c)
   all-visited h = all-unmap f P (visit c) (subst (All P) (visit-visitMut f c) h)
+
+-- what a cell reads within a tick: all that it reads, or nothing
+module _ (P : Net → Type 0) (c : Cell) where
+  pub none-read : visit c ≡ [] → All P (visit c)
+  unfolding All
+  none-read e = subst (All P) (sym e) tt
+
+  pub comb-by : (isSource c ≡ false → All P (visit c)) → All P (combReads c)
+  unfolding All
+  comb-by h = either (isSource c) (λ e. subst (All P) (sym (source-comb c e)) tt) (λ e. subst (All P) (sym (other-comb c e)) (h e))
+
+  pub comb-all : All P (visit c) → All P (combReads c)
+  comb-all h = comb-by (λ e. h)
+
+  pub all-comb : isSource c ≡ false → All P (combReads c) → All P (visit c)
+  all-comb e h = subst (All P) (other-comb c e) h
+
+pub visited-comb : (P : Net → Type 0) (f : Net → Net) (c : Cell) → All (λ n. P (f n)) (combReads c) → All P (combReads (visitMut f c))
+visited-comb P f c h = comb-by P (visitMut f c) (λ e. visited-all P f c (all-comb (λ n. P (f n)) c (sym (source-mapped f c) ∙ e) h))
 
 -- an input reads nothing
 pub input-reads : (P : Net → Type 0) (c : Cell) → isInput c ≡ true → All P (visit c)

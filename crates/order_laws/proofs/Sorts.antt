@@ -12,9 +12,10 @@ use Rattle.cell.specs.declared.Cell.{Cell}
 use Rattle.cell.specs.declared.Cell.the-variants.{Input, Output, Buf, Not, And, Or, Xor, Mux, Aig}
 use Rattle.kinds.specs.Kinds.{kindOf, sortOf}
 use Rattle.cell.specs.Records.{cellRecord}
-use Rattle.netlist.specs.Shape.{visitMut, isInput, isOutput, hasEffects, isSplittable}
+use Rattle.netlist.specs.Shape.{visitMut, isInput, isSource, isOutput, hasEffects, isSplittable}
 use Rattle.netlist.specs.Netlist.{cellIn}
-use Rattle.order_laws.proofs.Truth.{or-left, or-right, neither, and-both}
+use Rattle.netlist.proofs.Sources.{input-source, source-input}
+use Rattle.order_laws.proofs.Truth.{either, never, or-left, or-right, neither, and-both}
 use Rattle.order_laws.proofs.Lists.{getD-inside}
 
 -- the kind by its number
@@ -32,16 +33,17 @@ described : (f : Net → Net) (bit : ℕ) (c : Cell)
     × (isOutput c ≡ eqb (cellRecord bit c .kind) 2)
     × (hasEffects c ≡ leb (cellRecord bit c .kind) 2)
     × (isSplittable c ≡ (leb 3 (cellRecord bit c .kind) && leb (cellRecord bit c .kind) 8))
+    × (isSource c ≡ eqb (cellRecord bit c .kind) 1)
 unfolding cellRecord visitMut kindOf hasEffects sortOf
-described f bit (Input l) = (refl, refl, refl, refl, refl, refl, refl, refl)
-described f bit (Output a l) = (refl, refl, refl, refl, refl, refl, refl, refl)
-described f bit (Buf a) = (refl, refl, refl, refl, refl, refl, refl, refl)
-described f bit (Not a) = (refl, refl, refl, refl, refl, refl, refl, refl)
-described f bit (And a b) = (refl, refl, refl, refl, refl, refl, refl, refl)
-described f bit (Or a b) = (refl, refl, refl, refl, refl, refl, refl, refl)
-described f bit (Xor a b) = (refl, refl, refl, refl, refl, refl, refl, refl)
-described f bit (Mux a b c) = (refl, refl, refl, refl, refl, refl, refl, refl)
-described f bit (Aig p q) = (refl, refl, refl, refl, refl, refl, refl, refl)
+described f bit (Input l) = (refl, refl, refl, refl, refl, refl, refl, refl, refl)
+described f bit (Output a l) = (refl, refl, refl, refl, refl, refl, refl, refl, refl)
+described f bit (Buf a) = (refl, refl, refl, refl, refl, refl, refl, refl, refl)
+described f bit (Not a) = (refl, refl, refl, refl, refl, refl, refl, refl, refl)
+described f bit (And a b) = (refl, refl, refl, refl, refl, refl, refl, refl, refl)
+described f bit (Or a b) = (refl, refl, refl, refl, refl, refl, refl, refl, refl)
+described f bit (Xor a b) = (refl, refl, refl, refl, refl, refl, refl, refl, refl)
+described f bit (Mux a b c) = (refl, refl, refl, refl, refl, refl, refl, refl, refl)
+described f bit (Aig p q) = (refl, refl, refl, refl, refl, refl, refl, refl, refl)
 
 pub record-bit : (bit : ℕ) (c : Cell) → cellRecord bit c .bit ≡ bit
 record-bit bit c = described (λ n. n) bit c .0
@@ -67,6 +69,9 @@ effects-kind bit c = described (λ n. n) bit c .6
 pub splittable-kind : (bit : ℕ) (c : Cell) → isSplittable c ≡ (leb 3 (cellRecord bit c .kind) && leb (cellRecord bit c .kind) 8)
 splittable-kind bit c = described (λ n. n) bit c .7
 
+pub source-kind : (bit : ℕ) (c : Cell) → isSource c ≡ eqb (cellRecord bit c .kind) 1
+source-kind bit c = described (λ n. n) bit c .8
+
 -- a sort of cells that the kind decides
 pub record ByKind (sort : Cell → Bool) : Type 0 where
   pub test : ℕ → Bool
@@ -74,6 +79,9 @@ pub record ByKind (sort : Cell → Bool) : Type 0 where
 
 pub inputs-by : ByKind isInput
 inputs-by = record { test = λ k. eqb k 1; is = input-kind }
+
+pub sources-by : ByKind isSource
+sources-by = record { test = λ k. eqb k 1; is = source-kind }
 
 pub outputs-by : ByKind isOutput
 outputs-by = record { test = λ k. eqb k 2; is = output-kind }
@@ -93,6 +101,9 @@ module _ {sort : Cell → Bool} (by : ByKind sort) where
 
 pub input-mapped : (f : Net → Net) (c : Cell) → isInput (visitMut f c) ≡ isInput c
 input-mapped = sort-kept inputs-by
+
+pub source-mapped : (f : Net → Net) (c : Cell) → isSource (visitMut f c) ≡ isSource c
+source-mapped = sort-kept sources-by
 
 pub output-mapped : (f : Net → Net) (c : Cell) → isOutput (visitMut f c) ≡ isOutput c
 output-mapped = sort-kept outputs-by
@@ -118,15 +129,29 @@ module _ (c : Cell) where
   unfolding hasEffects
   gate-by i o = rw (i, o)
 
-  pub input-no-output : isInput c ≡ true → isOutput c ≡ false
-  input-no-output e = output-kind 0 c ∙ ne-eqb (kindIn c) 2 (λ q. omega (arith, q, eqb-true (kindIn c) 1 (sym (input-kind 0 c) ∙ e)))
+  pub source-no-output : isSource c ≡ true → isOutput c ≡ false
+  source-no-output e = output-kind 0 c ∙ ne-eqb (kindIn c) 2 (λ q. omega (arith, q, eqb-true (kindIn c) 1 (sym (source-kind 0 c) ∙ e)))
+
+  -- what is neither source nor output is a gate
+  pub other-gate : isSource c ≡ false → isOutput c ≡ false → hasEffects c ≡ false
+  other-gate s o = gate-by (either (isInput c) (λ i. never (input-source c i) s) (λ i. i)) o
+
+  -- sources have effects, and gates are none: these two rest on `source-input`, which holds today only
+  pub source-effects : isSource c ≡ true → hasEffects c ≡ true
+  source-effects e = input-effects (source-input c e)
+
+  pub gate-other : hasEffects c ≡ false → isSource c ≡ false
+  gate-other g = either (isSource c) (λ e. never (source-effects e) g) (λ e. e)
 
   -- what is cut into bits is a gate
   pub splittable-gate : isSplittable c ≡ true → hasEffects c ≡ false
   splittable-gate e =
       effects-kind 0 c ∙ lt-leb (kindIn c) 2 (omega (arith, leb-true 3 (kindIn c) (and-both _ _ (sym (splittable-kind 0 c) ∙ e) .0)))
 
--- past the last slot there is no gate
+-- past the last slot there is a source and no gate
+pub other-inside : (cs : List Cell) (s : ℕ) → isSource (cellIn cs s) ≡ false → s < length cs
+other-inside cs s e = getD-inside cs s (Input 0) (λ q. true≢false (sym (ap isSource q) ∙ e))
+
 pub gate-inside : (cs : List Cell) (s : ℕ) → hasEffects (cellIn cs s) ≡ false → s < length cs
 unfolding hasEffects
 gate-inside cs s e = getD-inside cs s (Input 0) (λ q. true≢false (sym (ap hasEffects q) ∙ e))

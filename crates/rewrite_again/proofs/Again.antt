@@ -82,15 +82,15 @@ module _ (u : Ended) where
   abbrev mapped : Net → Net
   mapped = netMap (E u .bits) (keep (E u))
 
-  operand : (m : ℕ) (n : Net) → Read u m n → renumber pairing (mapped n) ≡ G u n
+  operand : (n : Net) → Read u n → renumber pairing (mapped n) ≡ G u n
   unfolding netMap countKept keptSlots chosen
-  operand m n h = go (driver n) refl
+  operand n h = go (driver n) refl
     where
       go : (y : Driver) → driver n ≡ y → renumber pairing (mapped n) ≡ G u n
       go (driven.Const t) e =
           ap (λ y. renumber pairing (renumbered (E u .bits) (keep (E u)) n y)) e ∙ renumber-const pairing n t e ∙ sym (renumber-const (O u) n t e)
       go (driven.Cell x) e =
-          let l : x .0 < length (A u) = h .before x e .0 in
+          let l : x .0 < length (A u) = h .within x e in
           let few : count (kept u) (x .0) ≤ 65536 = omega (arith, count-le (kept u) (x .0), l, soundE u .few) in
           ap (λ y. renumber pairing (renumbered (E u .bits) (keep (E u)) n y)) e
           ∙ renumber-in pairing (count (kept u) (x .0)) few
@@ -105,7 +105,7 @@ module _ (u : Ended) where
       (sym (ap (visitMut (renumber pairing)) (cell-at (E u) (rankE u) (soundE u) j (new-inside j l))
       ∙ visit-visit (renumber pairing) mapped c
       ∙ visit-same (λ n. renumber pairing (mapped n)) (G u) c
-      (all-imp (Read u m) (λ n. renumber pairing (mapped n) ≡ G u n) (operand m) (visit c)
+      (all-imp (Read u) (λ n. renumber pairing (mapped n) ≡ G u n) operand (visit c)
       (reads u m (from-inside j l) (at j l .passes)))))
       (alike u m (from-inside j l))
 

@@ -9,18 +9,16 @@ use lib.Dec.{eqb, ltb}
 use lib.ListN.{length, getD, replicate, length-append, length-replicate, List·getD-eq-default}
 use borrow.Author.Tests.{eqb-false, ltb-true, ltb-false}
 use Rattle.value.specs.declared.Net.{Net}
-use Rattle.value.specs.declared.Slot.{Slot}
-use Rattle.value.specs.declared.Driver.the-variants as driven
-use Rattle.value.specs.Value.{slotAt, driver}
+use Rattle.value.specs.Value.{slotAt}
 use Rattle.cell.specs.declared.Cell.{Cell}
 use Rattle.cell.specs.Records.{cellRecord}
 use Rattle.checking.specs.Checking.{outOfSequence}
-use Rattle.netlist.specs.Shape.{visit, visitMut, isInput, hasEffects}
+use Rattle.netlist.specs.Shape.{visit, combReads, visitMut, isInput, isOutput, hasEffects}
 use Rattle.netlist.specs.Netlist.{Netlist, cellIn}
 use Rattle.order.specs.Orders.{topoSort}
 use Rattle.design.specs.Queue.{applied}
 use Rattle.rewrite.specs.Rewriter.{Rewriter}
-use Rattle.order_laws.specs.Members.{All}
+use Rattle.order_laws.specs.Members.{All, Drives, Wired}
 use Rattle.order_laws.proofs.Truth.{either}
 use Rattle.order_laws.proofs.Members.{all-imp}
 use Rattle.order_laws.proofs.Lists.{getD-padded}
@@ -28,10 +26,10 @@ use Rattle.order_laws.proofs.Sorts.{record-bit, splittable-gate, gate-parts, in
 use Rattle.order_laws.proofs.Queue.{applied-at, applied-length}
 use Rattle.levels_laws.specs.Algebra.{Before, Ranked}
 use Rattle.kept.proofs.Records.{sequence-zero}
-use Rattle.kept.proofs.Sound.{recordIn, NoOutput, Sound, Inner, inner, same-by, sound-operands}
+use Rattle.kept.proofs.Sound.{recordIn, Inside, NoOutput, Sound, Inner, inner, same-by, sound-wired}
 use Rattle.normal.specs.Paired.{Alike}
 use Rattle.normal.proofs.Normal.{Normal}
-use Rattle.normal.proofs.Alike.{image-sort, image-operands}
+use Rattle.normal.proofs.Alike.{image-sort, image-operands, image-comb}
 use Rattle.rewrite_again.proofs.Cells.{input-same}
 use Rattle.rewrite_again.proofs.Origin.{made, origin, origin-old, origin-inside, inside-origin, origin-splits, back-driven}
 use Rattle.rewrite_again.proofs.State.{g, few, made-few, mapped-cell}
@@ -109,33 +107,38 @@ module _ (u : Ended) where
   rankE m = rank (O m)
 
   -- an operand, by what its image is in the netlist
-  operand-slot : (m : ℕ) → m < len → (n : Net) → Before C rank (O m) (G n) → (x : Slot) → driver n ≡ driven.Cell x → (x .0 < len) × (rankE (x .0) < rankE m)
-  operand-slot m l n h x e =
-      let k : (O (x .0) < length C) × (rank (O (x .0)) < rank (O m)) = h (slotAt (O (x .0))) (back-driven C (few netlist rank normal) n x e) in
-      (inside-origin C (x .0) (k .0), k .1)
+  operand-slot : (P : ℕ → Type 0) (n : Net) → Drives P (G n) → Drives (λ x. P (O x)) n
+  operand-slot P n h x e = h (slotAt (O (x .0))) (back-driven C (few netlist rank normal) n x e)
 
-  operands : (m : ℕ) → m < len → All (λ n. Before C rank (O m) (G n) × NoOutput C (G n)) (visit (cellIn A m))
-  unfolding Ranked
+  origin-slot : (x : ℕ) → O x < length C → x < length A
+  origin-slot x l = omega (arith, long, inside-origin C x l)
+
+  operands : (m : ℕ) → m < len → All (λ n. Wired C (G n)) (visit (cellIn A m))
   operands m l =
-      let i : O m < length C = origin-inside C m l in
-      image-operands (λ n. Before C rank (O m) n × NoOutput C n) G (cellIn A m) (cellIn C (O m)) (alike m l) (sound-operands netlist rank (normal .sound) (O m) i)
+      image-operands (Wired C) G (cellIn A m) (cellIn C (O m)) (alike m l) (sound-wired netlist rank (normal .sound) (O m) (origin-inside C m l))
 
   ranked : Ranked A rankE
   unfolding Ranked
   ranked m l =
       let k : m < len = omega (arith, l, long) in
-      all-imp (λ n. Before C rank (O m) (G n) × NoOutput C (G n)) (Before A rankE m)
-      (λ n h x e. let o : (x .0 < len) × (rankE (x .0) < rankE m) = operand-slot m k n (h .0) x e in (omega (arith, long, o .0), o .1))
-      (visit (cellIn A m)) (operands m k)
+      all-imp (λ n. Before C rank (O m) (G n)) (Before A rankE m)
+      (λ n h x e. let o = operand-slot (λ y. (y < length C) × (rank y < rank (O m))) n h x e in (origin-slot (x .0) (o .0), o .1))
+      (combReads (cellIn A m))
+      (image-comb (Before C rank (O m)) G (cellIn A m) (cellIn C (O m)) (alike m k) (normal .sound .ranked (O m) (origin-inside C m k)))
+
+  inside-cells : (m : ℕ) → m < length A → All (Inside A) (visit (cellIn A m))
+  inside-cells m l =
+      all-imp (λ n. Wired C (G n)) (Inside A)
+      (λ n h x e. origin-slot (x .0) (operand-slot (λ y. (y < length C) × (isOutput (cellIn C y) ≡ false)) n h x e .0))
+      (visit (cellIn A m)) (operands m (omega (arith, l, long)))
 
   driven-cells : (m : ℕ) → m < length A → All (NoOutput A) (visit (cellIn A m))
   driven-cells m l =
-      let k : m < len = omega (arith, l, long) in
-      all-imp (λ n. Before C rank (O m) (G n) × NoOutput C (G n)) (NoOutput A)
+      all-imp (λ n. Wired C (G n)) (NoOutput A)
       (λ n h x e.
-      image-sort outputs-by G (cellIn A (x .0)) (cellIn C (O (x .0))) (alike (x .0) (operand-slot m k n (h .0) x e .0))
-      ∙ h .1 (slotAt (O (x .0))) (back-driven C (few netlist rank normal) n x e))
-      (visit (cellIn A m)) (operands m k)
+      let o = operand-slot (λ y. (y < length C) × (isOutput (cellIn C y) ≡ false)) n h x e in
+      image-sort outputs-by G (cellIn A (x .0)) (cellIn C (O (x .0))) (alike (x .0) (inside-origin C (x .0) (o .0))) ∙ o .1)
+      (visit (cellIn A m)) (operands m (omega (arith, l, long)))
 
   -- inputs are as they were
   input-cell : (m : ℕ) → m < length C → isInput (cellIn C m) ≡ true → cellIn A m ≡ cellIn C m
@@ -166,6 +169,7 @@ module _ (u : Ended) where
         ∙ ap (λ (k : ℕ). length (netlist .bits) + k) (length-replicate (length A - length (netlist .bits)) 0) ∙ omega (arith, long, normal .sound .wide);
     few = omega (arith, long, made-few netlist rank normal);
     ranked = ranked;
+    inside = inside-cells;
     driven = driven-cells;
     sequence = sequence;
   }

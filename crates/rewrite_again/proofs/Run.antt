@@ -16,11 +16,11 @@ use Rattle.rewrite.specs.Rewriter.{begun}
 use Rattle.rewrite.specs.Rewrite.{Run, ran, stuck, run, slotsOf}
 use Rattle.order_laws.specs.Ordered.{has}
 use Rattle.order_laws.specs.Members.{All}
-use Rattle.order_laws.proofs.Bits.{topoSort-fed}
+use Rattle.order_laws.proofs.Bits.{topoSort-fed, sourcesLast}
 use Rattle.order_laws.proofs.Members.{all-imp}
 use Rattle.rewrite_laws.proofs.Items.{run-along}
-use Rattle.levels_laws.specs.Algebra.{Before, Ranked}
 use Rattle.levels_laws.proofs.Ranks.{ranked-falls}
+use Rattle.kept.proofs.Sound.{Inside}
 use Rattle.normal.proofs.Normal.{Normal}
 use Rattle.normal.proofs.Alike.{visit-stays}
 use Rattle.rewrite_again.proofs.Origin.{origin-old, back-old}
@@ -33,10 +33,9 @@ module _ (d : Netlist) (rank : ℕ → ℕ) (normal : Normal d rank) where
 
   -- the netlist's own cells by its own slots
   own-cell : (s : ℕ) → s < length C → visitMut (g d rank normal) (cellIn C s) ≡ cellIn C s
-  unfolding Ranked
   own-cell s l =
       visit-stays (g d rank normal) (cellIn C s)
-      (all-imp (Before C rank s) (λ n. g d rank normal n ≡ n) (λ n h. back-old C (few d rank normal) n (λ x e. h x e .0)) (visit (cellIn C s)) (normal .sound .ranked s l))
+      (all-imp (Inside C) (λ n. g d rank normal n ≡ n) (λ n h. back-old C (few d rank normal) n h) (visit (cellIn C s)) (normal .sound .inside s l))
 
   begun-state : St d rank normal [] (begun C)
   unfolding unchanged those has All
@@ -57,7 +56,7 @@ module _ (d : Netlist) (rank : ℕ → ℕ) (normal : Normal d rank) where
 
   pub run-ok : Ran d rank normal (topoSort C) (run findNewCell C)
   run-ok =
-      run-along C (St d rank normal) (λ r. ⊥) findNewCell (topoSort-fed C rank (ranked-falls C rank (normal .sound .ranked)))
+      run-along C (St d rank normal) (λ r. ⊥) findNewCell (topoSort-fed C (sourcesLast C rank) (ranked-falls C rank (normal .sound .ranked)))
       (λ before s n r st. item-ok d rank normal before s (n .small) (n .new) r st (n .later) (n .is)) begun-state
 
   -- so refusal 9 cannot come for at most 512 records

@@ -28,7 +28,7 @@ use Rattle.order_laws.proofs.Members.{all-imp, all-both, all-every}
 use Rattle.order_laws.proofs.Sorts.{splittable-gate, effects-by}
 use Rattle.order_laws.proofs.Queue.{mapped-once, applied-at, mapped-final}
 use Rattle.order_laws.proofs.Operands.{visited-all}
-use Rattle.levels_laws.specs.Algebra.{Before, Ranked}
+use Rattle.kept.proofs.Sound.{Inside}
 use Rattle.kept.proofs.Keep.{KeptNet, effects-kept, reads-kept}
 use Rattle.kept.proofs.Chosen.{count}
 use Rattle.normal.specs.Paired.{Alike}
@@ -144,24 +144,23 @@ module _ (u : Ended) where
       (image-sort effects-by (G u) (cellIn (A u) m) (cellIn (C u) (O u m)) (alike u m l) ∙ ap (λ (j : ℕ). hasEffects (cellIn (C u) j)) e ∙ h)
 
   -- an operand of a kept cell
-  pub record Read (m : ℕ) (n : Net) : Type 0 where
-    pub before : Before (A u) (rankE u) m n
+  pub record Read (n : Net) : Type 0 where
+    pub within : Inside (A u) n
     pub marked : KeptNet (E u) (rankE u) (soundE u) n
     pub whole : Drives (λ x. splits (C u) x ≡ false) n
 
-  pub reads : (m : ℕ) → m < len u → kept m ≡ true → All (Read m) (visit (cellIn (A u) m))
-  unfolding Ranked
+  pub reads : (m : ℕ) → m < len u → kept m ≡ true → All Read (visit (cellIn (A u) m))
   reads m l k =
-      let B : Net → Type 0 = Before (A u) (rankE u) m in
+      let B : Net → Type 0 = Inside (A u) in
       let K : Net → Type 0 = KeptNet (E u) (rankE u) (soundE u) in
       let W : Net → Type 0 = Drives (λ x. splits (C u) x ≡ false) in
       let ns : List Net = visit (cellIn (A u) m) in
-      all-imp (λ n. B n × (K n × W n)) (Read m) (λ n h. record { before = h .0; marked = h .1 .0; whole = h .1 .1 }) ns
-      (all-both B (λ n. K n × W n) ns (soundE u .ranked m (inside m l))
+      all-imp (λ n. B n × (K n × W n)) Read (λ n h. record { within = h .0; marked = h .1 .0; whole = h .1 .1 }) ns
+      (all-both B (λ n. K n × W n) ns (soundE u .inside m (inside m l))
       (all-both K W ns (reads-kept (E u) (rankE u) (soundE u) m (inside m l) k) (operands-whole m l)))
 
-  read-kept : (m : ℕ) (n : Net) → Read m n → Drives KeptAs (G u n)
-  read-kept m n h y e = go (driver n) refl
+  read-kept : (n : Net) → Read n → Drives KeptAs (G u n)
+  read-kept n h y e = go (driver n) refl
     where
       go : (z : Driver) → driver n ≡ z → KeptAs (y .0)
       go (driven.Const t) q =
@@ -171,7 +170,7 @@ module _ (u : Ended) where
           let k : driven.Cell (slotAt (O u (x .0))) ≡ driven.Cell y = sym (back-driven (C u) (few netlist rank normal) n x q) ∙ e in
           let j : slotAt (O u (x .0)) ≡ y = cc in
           λ m′ l w o.
-          ap kept (one-whole m′ (x .0) l (omega (arith, h .before x q .0, long u)) w (h .whole x q) (o ∙ ap (λ (i : Slot). i .0) (sym j)))
+          ap kept (one-whole m′ (x .0) l (omega (arith, h .within x q, long u)) w (h .whole x q) (o ∙ ap (λ (i : Slot). i .0) (sym j)))
           ∙ h .marked x q
 
   reads-kept-as : (i : ℕ) → i < length (C u) → KeptAs i → All (Drives KeptAs) (visit (cellIn (C u) i))
@@ -181,7 +180,7 @@ module _ (u : Ended) where
       let l : m < len u = inside-origin (C u) m (subst (λ (x : ℕ). x < length (C u)) (sym (s .from)) k) in
       image-reads (Drives KeptAs) (G u) (cellIn (A u) m) (cellIn (C u) i)
       (subst (λ (x : ℕ). Alike (visitMut (G u) (cellIn (A u) m)) (cellIn (C u) x)) (s .from) (alike u m l))
-      (all-imp (Read m) (λ n. Drives KeptAs (G u n)) (read-kept m) (visit (cellIn (A u) m)) (reads m l (h m l (stands-whole i ZERO k) (s .from))))
+      (all-imp Read (λ n. Drives KeptAs (G u n)) read-kept (visit (cellIn (A u) m)) (reads m l (h m l (stands-whole i ZERO k) (s .from))))
 
   whole-kept : (m : ℕ) → m < len u → splits (C u) m ≡ false → kept m ≡ true
   whole-kept m l w =

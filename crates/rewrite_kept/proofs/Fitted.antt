@@ -20,7 +20,7 @@ use Rattle.value.specs.Value.{driver}
 use Rattle.value.proofs.Laws.{cell-driver}
 use Rattle.cell.specs.declared.Cell.{Cell}
 use Rattle.cell.specs.declared.Cell.the-variants.{Input}
-use Rattle.netlist.specs.Shape.{visit, visitMut, isInput}
+use Rattle.netlist.specs.Shape.{combReads, visitMut, isSource}
 use Rattle.netlist.specs.Netlist.{cellIn}
 use Rattle.design.specs.declared.Source.the-variants.{Opaque}
 use Rattle.design.specs.Queue.{Design, Entry, netIn, drivenTo, mapNetNew, sourceIn, findNewCell}
@@ -33,14 +33,14 @@ use Rattle.rewrite_laws.proofs.Settled.{limit, stamped-inside, tickets, Settled
 use Rattle.accepted_laws.proofs.Final.{mapNetNew-final}
 use Rattle.levels_laws.specs.Algebra.{cellValue}
 use Rattle.levels_laws.specs.Instances.{kleene}
-use Rattle.levels_laws.proofs.Operands.{cell-same, cell-visitMut, cell-own, input-own}
+use Rattle.levels_laws.proofs.Operands.{cell-same, cell-visitMut, cell-own, source-own}
 use Rattle.rewrite_kept.specs.Outcomes.{gateLevel, SourceFits}
 
 -- a function that keeps levels, put to each operand
 pub mapped-level : (v : Net → Trit) (f : Net → Net) → ((n : Net) → v (f n) ≡ v n) → (own : Trit) (c : Cell)
     → cellValue kleene v own (visitMut f c) ≡ cellValue kleene v own c
 mapped-level v f same own c =
-    cell-visitMut kleene v f own c ∙ cell-same kleene (λ n. v (f n)) v own c (all-every (λ n. v (f n) ≡ v n) same (visit c))
+    cell-visitMut kleene v f own c ∙ cell-same kleene (λ n. v (f n)) v own c (all-every (λ n. v (f n) ≡ v n) same (combReads c))
 
 module _ (v : Net → Trit) where
   -- a finished slot: its net has the level of the net that stands for it; and if it stands for itself, that of the cell in the slot
@@ -76,7 +76,7 @@ module _ (v : Net → Trit) where
             (fits .slots s (omega (arith, h, List·getD-append (r .stamps) (suc (r .clock) ∷ []) 0 s l)));
       }
 
-      pub entered-level : isInput c ≡ false → v (netIn last) ≡ gateLevel v c
+      pub entered-level : isSource c ≡ false → v (netIn last) ≡ gateLevel v c
       unfolding entered
       entered-level e =
           let here : getD (r .stamps ++ (suc (r .clock) ∷ [])) last 0 ≡ suc (r .clock) = rw (sym (inv .sizes)) (getD-append-seam (r .stamps) (suc (r .clock)) [] 0) in
@@ -128,7 +128,7 @@ module _ (v : Net → Trit) where
       slot-fits : (n m : Net) (s : Slot) → v m ≡ v n → driver m ≡ driven.Cell s → drivenTo rs m (driver m) ≡ m → SettledSlot cs₀ (r .stamps) (s .0)
           → v n ≡ cellValue kleene v (v n) (cellIn (r .design .cells) (s .0))
       slot-fits n m s e d f (inl i) =
-          sym (input-own kleene v (v n) (cellIn (r .design .cells) (s .0)) (ap isInput (inv .untouched (s .0) (i .0) (inv .inputs (s .0) (i .0) (i .1))) ∙ i .1))
+          sym (source-own kleene v (v n) (cellIn (r .design .cells) (s .0)) (ap isSource (inv .untouched (s .0) (i .0) (inv .sources (s .0) (i .0) (i .1))) ∙ i .1))
       slot-fits n m s e d f (inr p) =
           let is : m ≡ netIn (s .0) = cell-driver m s d in
           let final : getD rs (s .0) m ≡ m = sym (ap (drivenTo rs m) d) ∙ f in

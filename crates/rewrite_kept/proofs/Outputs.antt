@@ -25,7 +25,7 @@ use Rattle.order_laws.specs.Members.{All}
 use Rattle.order_laws.proofs.Truth.{either, or-right}
 use Rattle.order_laws.proofs.Members.{all-imp, all-both, those-pass, all-those, all-tabulate}
 use Rattle.order_laws.proofs.Queue.{applied-length}
-use Rattle.order_laws.proofs.Sorts.{gate-parts}
+use Rattle.order_laws.proofs.Sorts.{gate-other}
 use Rattle.rewrite_laws.proofs.Settled.{Inv}
 use Rattle.levels_laws.specs.Algebra.{cellValue, Fits, Ranked}
 use Rattle.levels_laws.specs.Instances.{kleene}
@@ -111,7 +111,7 @@ module _ (look : Lookup) (cs₀ : List Cell) (looks : Looks look cs₀) (fed : F
   each s l =
       either (hasEffects (cellIn cs₀ s))
       (λ e. subst (Refines (v (netIn s))) (port-cell s l e) (refines-refl (v (netIn s))))
-      (λ e. subst (Refines (v (netIn s))) (cell-own kleene v Undef (own cs₀ s) (cellIn cs₀ s) (gate-parts (cellIn cs₀ s) e .0)) (gate-refined s l e))
+      (λ e. subst (Refines (v (netIn s))) (cell-own kleene v Undef (own cs₀ s) (cellIn cs₀ s) (gate-other (cellIn cs₀ s) e)) (gate-refined s l e))
 
   output-refined : (s : ℕ) → s < length cs₀ → isOutput (cellIn cs₀ s) ≡ true → Refines (level cs s) (level cs₀ s)
   unfolding hasEffects

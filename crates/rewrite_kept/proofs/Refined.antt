@@ -18,7 +18,7 @@ use Rattle.value.specs.Value.{driver, net}
 use Rattle.value.proofs.Laws.{cell-driver}
 use Rattle.cell.specs.declared.Cell.{Cell}
 use Rattle.cell.specs.declared.Cell.the-variants.{Input, Output, Buf, Not, And, Or, Xor, Mux, Aig}
-use Rattle.netlist.specs.Shape.{visit}
+use Rattle.netlist.specs.Shape.{visit, combReads}
 use Rattle.netlist.specs.Netlist.{cellIn}
 use Rattle.design.specs.Queue.{netIn}
 use Rattle.order_laws.specs.Members.{All}
@@ -28,14 +28,14 @@ use Rattle.levels_laws.specs.Instances.{kleene}
 use Rattle.levels_laws.proofs.Operands.{value-const, value-slot}
 use Rattle.rewrite_kept.specs.Outcomes.{Constants}
 
--- a cell's level is monotone in those of its operands
+-- a cell's level is monotone in those of the nets that it reads within a tick
 module _ (u w : Net → Trit) where
   control-monotone : (p : ControlNet) → Refines (w (net p)) (u (net p)) → Refines (controlValue kleene w p) (controlValue kleene u p)
   control-monotone (Pos n) h = h
   control-monotone (Neg n) h = not-monotone (u n) (w n) h
 
-  pub cell-monotone : (own : Trit) (c : Cell) → All (λ n. Refines (w n) (u n)) (visit c) → Refines (cellValue kleene w own c) (cellValue kleene u own c)
-  unfolding All visit cellValue
+  pub cell-monotone : (own : Trit) (c : Cell) → All (λ n. Refines (w n) (u n)) (combReads c) → Refines (cellValue kleene w own c) (cellValue kleene u own c)
+  unfolding All visit combReads cellValue
   cell-monotone own (Input l) h = refines-refl own
   cell-monotone own (Output a l) h = h .0
   cell-monotone own (Buf a) h = h .0
@@ -66,7 +66,7 @@ module _ (cs : List Cell) (rank : ℕ → ℕ) (ranked : Ranked cs rank) (v : Ne
       (cell-monotone (netValue kleene ls) v (own s) c
       (all-imp (Before cs rank s) (λ n. Refines (v n) (netValue kleene ls n))
       (λ n b. net-refined n (λ x e. let a : (x .0 < length cs) × (rank (x .0) < rank s) = b x e in below k (x .0) (omega arith) (a .0)))
-      (visit c) (ranked s l)))
+      (combReads c) (ranked s l)))
       (each s l))
 
   pub slots-refined : (s : ℕ) → s < length cs → Refines (v (netIn s)) (ls s)

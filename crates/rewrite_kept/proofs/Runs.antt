@@ -26,7 +26,7 @@ use Rattle.order_laws.specs.Members.{All, Wired}
 use Rattle.order_laws.proofs.Bits.{topoSort-each}
 use Rattle.order_laws.proofs.Truth.{never}
 use Rattle.order_laws.proofs.Queue.{seek-snoc}
-use Rattle.order_laws.proofs.Sorts.{gate-parts}
+use Rattle.order_laws.proofs.Sorts.{gate-other}
 use Rattle.order_laws.proofs.Members.{has-snoc}
 use Rattle.rewrite_laws.proofs.Kept.{Keeps, KeptResult, KeptAdded, processCell-kept, addCell-kept}
 use Rattle.rewrite_laws.proofs.Settled.{limit, tickets, StandsFor, Inv}
@@ -83,7 +83,7 @@ module _ (cs₀ : List Cell) (v : Net → Trit) (consts : Constants v) where
       back : Fitted v r × (v (netIn (length (r .design .cells))) ≡ gateLevel v c)
       back = (
         entered-back v cs₀ r (p few .inv) c (netIn (length (r .design .cells))) fits,
-        entered-level v cs₀ r (p few .inv) c (netIn (length (r .design .cells))) fits (gate-parts c (q few .1) .0),
+        entered-level v cs₀ r (p few .inv) c (netIn (length (r .design .cells))) fits (gate-other c (q few .1)),
       )
 
     entered-cached : (r : Rewriter) (c : Cell) → Known r → Q cs₀ before r c → Cached (entered r c (netIn (length (r .design .cells))))
@@ -209,14 +209,14 @@ module _ (cs₀ : List Cell) (v : Net → Trit) (consts : Constants v) where
           (done-more r′ (k .kept) (r′ .design) (λ i h. refl) (λ i x h. refl) refl (gateLevel v c) h
           (λ few′ st′ f g. g .level (unreplaced r′ st′)
           ∙ ap (cellValue kleene v (v (netIn s))) (st′ .inv .untouched s small (st′ .waiting s small new))
-          ∙ cell-own kleene v (v (netIn s)) Undef (cellIn cs₀ s) (gate-parts (cellIn cs₀ s) (sym effects ∙ e) .0) ∙ sym (c-level f))
+          ∙ cell-own kleene v (v (netIn s)) Undef (cellIn cs₀ s) (gate-other (cellIn cs₀ s) (sym effects ∙ e)) ∙ sym (c-level f))
           c refl)
       cell-leads e (cell d r′) k h =
           done-more r′ (k .kept) (replaceCell (r′ .design) s d) (λ i h. getD-set-other (r′ .design .cells) s i d (Input 0) h) (λ i x h. refl)
           (length-set (r′ .design .cells) s d) (gateLevel v d) h
           (λ few′ st′ f g. g .level (unreplaced r′ st′)
           ∙ ap (cellValue kleene v (v (netIn s))) (getD-set-same (r′ .design .cells) s d (Input 0) (omega (arith, small, st′ .inv .many)))
-          ∙ cell-own kleene v (v (netIn s)) Undef d (gate-parts d (k .good few′ .1) .0))
+          ∙ cell-own kleene v (v (netIn s)) Undef d (gate-other d (k .good few′ .1)))
           d refl
       cell-leads e (value n r′) k h = replaced-leads n r′ (k .0) h
       cell-leads e (spent r′) k h = tt

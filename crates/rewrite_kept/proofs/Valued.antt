@@ -13,7 +13,7 @@ use Rattle.value.specs.declared.Driver.the-variants as driven
 use Rattle.value.specs.Value.{slotAt, eqNet, driver}
 use Rattle.value.proofs.Laws.{driver-cell}
 use Rattle.cell.specs.declared.Cell.{Cell}
-use Rattle.netlist.specs.Shape.{isInput}
+use Rattle.netlist.specs.Shape.{isSource}
 use Rattle.netlist.specs.Netlist.{cellIn}
 use Rattle.design.specs.Queue.{netIn, drivenTo, followed, mapNetNew, applied}
 use Rattle.rewrite.specs.Rewriter.{Rewriter}
@@ -23,7 +23,7 @@ use Rattle.rewrite_laws.proofs.Settled.{limit, stamped-inside, StandsFor, Inv}
 use Rattle.accepted_laws.proofs.Final.{mapNetNew-final}
 use Rattle.levels_laws.specs.Algebra.{netValue, cellValue, Fits}
 use Rattle.levels_laws.specs.Instances.{kleene}
-use Rattle.levels_laws.proofs.Operands.{value-const, value-slot, cell-visitMut, cell-own, input-own}
+use Rattle.levels_laws.proofs.Operands.{value-const, value-slot, cell-visitMut, cell-own, source-own}
 use Rattle.rewrite_kept.specs.Outcomes.{Constants}
 use Rattle.rewrite_kept.proofs.Fitted.{SlotFits, Fitted}
 
@@ -84,7 +84,7 @@ module _ (cs₀ : List Cell) (r : Rewriter) (inv : Inv cs₀ r) (few : length (r
       where
         own-level : (c : Cell) → valued (netIn s) ≡ cellValue kleene valued (own s) c → valued (netIn s) ≡ cellValue kleene valued (valued (netIn s)) c
         own-level c h =
-            either (isInput c) (λ i. sym (input-own kleene valued (valued (netIn s)) c i)) (λ i. h ∙ cell-own kleene valued (own s) (valued (netIn s)) c i)
+            either (isSource c) (λ i. sym (source-own kleene valued (valued (netIn s)) c i)) (λ i. h ∙ cell-own kleene valued (own s) (valued (netIn s)) c i)
 
   pub valued-fits : Fitted valued r
   valued-fits = record {

@@ -14,7 +14,7 @@ use Rattle.value.specs.declared.Net.{Net}
 use Rattle.cell.specs.declared.Cell.{Cell}
 use Rattle.cell.specs.declared.Cell.the-variants.{Input}
 use Rattle.cell.proofs.Lists.{tabulate-at, tabulate-length}
-use Rattle.netlist.specs.Shape.{visit, visitMut, isInput, hasEffects}
+use Rattle.netlist.specs.Shape.{visit, visitMut, isSource, hasEffects}
 use Rattle.netlist.specs.Netlist.{cellIn}
 use Rattle.order.specs.Orders.{bitDeps, topoSort}
 use Rattle.design.specs.declared.Found.the-variants.{At}
@@ -27,7 +27,7 @@ use Rattle.order_laws.proofs.Bits.{reads-deps, topoSort-fed}
 use Rattle.order_laws.proofs.Truth.{either, never}
 use Rattle.order_laws.proofs.Members.{has-snoc, has-snoc-same, has-snoc-other, all-imp, all-both, has-snoc-old}
 use Rattle.order_laws.proofs.Operands.{drives-in, visited-all}
-use Rattle.order_laws.proofs.Sorts.{effects-mapped, gate-by, gate-parts}
+use Rattle.order_laws.proofs.Sorts.{effects-mapped, other-gate, gate-other}
 use Rattle.order_laws.proofs.Queue.{seek-snoc}
 use Rattle.order_laws.proofs.Lists.{getD-same}
 use Rattle.aig_laws.specs.Reads.{GateOf}
@@ -44,11 +44,11 @@ module _ (cs₀ : List Cell) where
       → ((d : ℕ) → has d (bitDeps cs₀ s) ≡ true → d < tickets cs₀ → has d before ≡ true) → All (Settled cs₀ (r .stamps)) (visit (cellIn cs₀ s))
   unfolding Settled
   settle before r st s wired after =
-      let Read : ℕ → Type 0 = λ x. isInput (cellIn cs₀ x) ≡ false → has x (bitDeps cs₀ s) ≡ true in
+      let Read : ℕ → Type 0 = λ x. isSource (cellIn cs₀ x) ≡ false → has x (bitDeps cs₀ s) ≡ true in
       all-imp (λ m. Wired cs₀ m × Drives Read m) (Settled cs₀ (r .stamps))
       (λ m k x e. let w = k .0 x e in
-      either (isInput (cellIn cs₀ (x .0))) (λ i. inl (w .0, i))
-      (λ i. inr (st .done (x .0) (w .0) (after (x .0) (k .1 x e i) (w .0)) (gate-by (cellIn cs₀ (x .0)) i (w .1)))))
+      either (isSource (cellIn cs₀ (x .0))) (λ i. inl (w .0, i))
+      (λ i. inr (st .done (x .0) (w .0) (after (x .0) (k .1 x e i) (w .0)) (other-gate (cellIn cs₀ (x .0)) i (w .1)))))
       (visit (cellIn cs₀ s)) (all-both (Wired cs₀) (Drives Read) (visit (cellIn cs₀ s)) wired (reads-deps cs₀ s))
 
   -- a slot is finished after its item
@@ -59,8 +59,8 @@ module _ (cs₀ : List Cell) where
     open-slot : getD (r .stamps) s 0 ≡ 0
     open-slot = st .waiting s small new
 
-    no-input : isInput (cellIn cs₀ s) ≡ false
-    no-input = gate-parts (cellIn cs₀ s) gate .0
+    no-source : isSource (cellIn cs₀ s) ≡ false
+    no-source = gate-other (cellIn cs₀ s) gate
 
     stamp-here : getD zs s 0 ≡ suc (r .clock)
     stamp-here = getD-set-same (r .stamps) s (suc (r .clock)) 0 (omega (arith, small, st .inv .many, st .inv .sizes))
@@ -69,7 +69,7 @@ module _ (cs₀ : List Cell) where
     stamp-else i h = getD-set-other (r .stamps) s i (suc (r .clock)) 0 h
 
     old-settled : (d : Design) (es : List Entry) (m : Net) → Settled cs₀ (r .stamps) m → Settled cs₀ zs m
-    old-settled d es m k = later-settled cs₀ (r .stamps) zs (finished-later cs₀ r (st .inv) s d es small open-slot no-input) m k .0
+    old-settled d es m k = later-settled cs₀ (r .stamps) zs (finished-later cs₀ r (st .inv) s d es small open-slot no-source) m k .0
 
     here-settled : FewSlots r → Settled cs₀ zs (netIn s)
     unfolding Settled
@@ -112,7 +112,7 @@ module _ (cs₀ : List Cell) where
       pub replaced-state : (m : Net) → Settled cs₀ (r .stamps) m → State cs₀ (before ++ (s ∷ [])) (finished r s (replaceNet (r .design) s m) (r .cache))
       replaced-state m k =
           finish (replaceNet (r .design) s m) (r .cache)
-          (finished-inv cs₀ r (st .inv) s (replaceNet (r .design) s m) (r .cache) small open-slot no-input refl (λ i h. refl) here-now
+          (finished-inv cs₀ r (st .inv) s (replaceNet (r .design) s m) (r .cache) small open-slot no-source refl (λ i h. refl) here-now
           (length-set (r .design .replaced) s m ∙ st .inv .wide)
           (λ i x h. getD-set-other (r .design .replaced) s i m x h)
           (λ x. inr (rw (getD-set-same (r .design .replaced) s m x (omega (arith, small, st .inv .wide))) k)))
@@ -132,7 +132,7 @@ module _ (cs₀ : List Cell) where
       same-state few c g =
           let es : List Entry = r .cache ++ ((c, netIn s) ∷ []) in
           finish (r .design) es
-          (finished-inv cs₀ r (st .inv) s (r .design) es small open-slot no-input refl (λ i h. refl) here-now (st .inv .wide) (λ i x h. refl) stands-here)
+          (finished-inv cs₀ r (st .inv) s (r .design) es small open-slot no-source refl (λ i h. refl) here-now (st .inv .wide) (λ i x h. refl) stands-here)
           (known-more few c g)
 
       -- it is rewritten in its slot
@@ -141,7 +141,7 @@ module _ (cs₀ : List Cell) where
       rewritten-state few c g =
           let es : List Entry = r .cache ++ ((c, netIn s) ∷ []) in
           finish (replaceCell (r .design) s c) es
-          (finished-inv cs₀ r (st .inv) s (replaceCell (r .design) s c) es small open-slot no-input
+          (finished-inv cs₀ r (st .inv) s (replaceCell (r .design) s c) es small open-slot no-source
           (length-set (r .design .cells) s c)
           (λ i h. getD-set-other (r .design .cells) s i c (Input 0) h)
           (rw (getD-set-same (r .design .cells) s c (Input 0) (omega (arith, small, st .inv .many))) (g .0))
@@ -168,7 +168,7 @@ module _ (cs₀ : List Cell) where
       many = omega arith;
       wide = tabulate-length netIn (length cs₀);
       clocked = λ i. omega (arith, getD-same {A = ℕ} (length cs₀) i 0);
-      inputs = λ i l e. getD-same {A = ℕ} (length cs₀) i 0;
+      sources = λ i l e. getD-same {A = ℕ} (length cs₀) i 0;
       untouched = λ i l e. refl;
       fed = λ i h. absurd (omega (arith, h, getD-same {A = ℕ} (length cs₀) i 0));
       stands = λ i d l. inl (tabulate-at netIn (length cs₀) d i l);

@@ -1,4 +1,4 @@
--- Settled nets: constants, inputs, and nets that are finished. Their stamps change no more, and a look-up of one gives settled operands with
+-- Settled nets: constants, sources, and nets that are finished. Their stamps change no more, and a look-up of one gives settled operands with
 -- lower stamps. So the Rust's look-up is one that the falling number falls for. Assumes nothing.
 use mathlib.Core.Path.{_≡_, refl, sym, ap, _∙_, subst}
 use mathlib.Core.Bool.{Bool, true, false, cond}
@@ -18,8 +18,9 @@ use Rattle.value.specs.declared.Driver.the-variants as driven
 use Rattle.value.specs.Value.{driver, UNDEF, ZERO, ONE, fromTrit}
 use Rattle.value.proofs.Laws.{cell-driver, driver-const}
 use Rattle.cell.specs.declared.Cell.{Cell}
-use Rattle.netlist.specs.Shape.{visit, isInput}
+use Rattle.netlist.specs.Shape.{visit, isSource}
 use Rattle.netlist.specs.Netlist.{cellIn}
+use Rattle.netlist.proofs.Sources.{source-reads-nothing}
 use Rattle.design.specs.declared.Source.{Source}
 use Rattle.design.specs.declared.Source.the-variants.{Opaque, Known}
 use Rattle.design.specs.Queue.{netIn, drivenTo, mapNetNew, sourceIn, findNewCell}
@@ -27,7 +28,7 @@ use Rattle.rewrite.specs.Rewriter.{Rewriter, stampIn, stamp, findCell}
 use Rattle.order_laws.specs.Members.{All, Drives}
 use Rattle.order_laws.proofs.Truth.{either}
 use Rattle.order_laws.proofs.Members.{all-imp}
-use Rattle.order_laws.proofs.Operands.{drives-none, input-reads}
+use Rattle.order_laws.proofs.Operands.{drives-none, none-read}
 use Rattle.order_laws.proofs.Queue.{mapped-keeps, replacement}
 use Rattle.order_laws.proofs.Lists.{getD-inside}
 use Rattle.aig_laws.specs.Reads.{SourceNets}
@@ -50,7 +51,7 @@ module _ (cs₀ : List Cell) where
   tickets = length cs₀
 
   abbrev pub SettledSlot : List ℕ → ℕ → Type 0
-  SettledSlot ts s = ((s < tickets) × (isInput (cellIn cs₀ s) ≡ true)) ⊎ (0 < getD ts s 0)
+  SettledSlot ts s = ((s < tickets) × (isSource (cellIn cs₀ s) ≡ true)) ⊎ (0 < getD ts s 0)
 
   unfoldable pub Settled : List ℕ → Net → Type 0
   Settled ts = Drives (SettledSlot ts)
@@ -73,7 +74,7 @@ module _ (cs₀ : List Cell) where
     pub many : tickets ≤ length (r .design .cells)
     pub wide : length (r .design .replaced) ≡ tickets
     pub clocked : (i : ℕ) → getD (r .stamps) i 0 ≤ r .clock
-    pub inputs : (i : ℕ) → i < tickets → isInput (cellIn cs₀ i) ≡ true → getD (r .stamps) i 0 ≡ 0
+    pub sources : (i : ℕ) → i < tickets → isSource (cellIn cs₀ i) ≡ true → getD (r .stamps) i 0 ≡ 0
     pub untouched : (i : ℕ) → i < tickets → getD (r .stamps) i 0 ≡ 0 → cellIn (r .design .cells) i ≡ cellIn cs₀ i
     pub fed : (i : ℕ) → 0 < getD (r .stamps) i 0 → All (Under (r .stamps) (getD (r .stamps) i 0)) (visit (cellIn (r .design .cells) i))
     pub stands : (i : ℕ) (d : Net) → i < tickets → StandsFor (r .stamps) i (getD (r .design .replaced) i d)
@@ -122,7 +123,7 @@ module _ (cs₀ : List Cell) where
       where
         slot : (s : ℕ) → getD ts s 0 ≤ stamp ts m → SettledSlot ts s → All (Under ts (stamp ts m)) (visit (cellIn (r .design .cells) s))
         slot s l (inl i) =
-            rw (inv .untouched s (i .0) (inv .inputs s (i .0) (i .1))) (input-reads (Under ts (stamp ts m)) (cellIn cs₀ s) (i .1))
+            rw (inv .untouched s (i .0) (inv .sources s (i .0) (i .1))) (none-read (Under ts (stamp ts m)) (cellIn cs₀ s) (source-reads-nothing (cellIn cs₀ s) (i .1)))
         slot s l (inr p) =
             all-imp (Under ts (getD ts s 0)) (Under ts (stamp ts m)) (λ o u. (u .0, omega (arith, u .1, l))) (visit (cellIn (r .design .cells) s)) (inv .fed s p)
 

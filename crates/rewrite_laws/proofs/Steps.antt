@@ -15,7 +15,7 @@ use Rattle.value.specs.declared.Driver.the-variants as driven
 use Rattle.value.specs.Value.{driver}
 use Rattle.cell.specs.declared.Cell.{Cell}
 use Rattle.cell.specs.declared.Cell.the-variants.{Input}
-use Rattle.netlist.specs.Shape.{visit, isInput}
+use Rattle.netlist.specs.Shape.{visit, isSource}
 use Rattle.netlist.specs.Netlist.{cellIn}
 use Rattle.design.specs.Queue.{Design, Entry, netIn}
 use Rattle.rewrite.specs.Rewriter.{Rewriter, stampIn, stamp, entered, finished}
@@ -115,7 +115,7 @@ module _ (cs₀ : List Cell) where
             (λ l. omega (arith, old-stamp i l, inv .clocked i))
             (λ e. rw e (omega (arith, getD-append-seam ts (suc (r .clock)) [] 0)))
             (λ l. omega (arith, getD-past ts (suc (r .clock)) 0 i l));
-        inputs = λ i l e. old-stamp i (ticket-inside i l) ∙ inv .inputs i l e;
+        sources = λ i l e. old-stamp i (ticket-inside i l) ∙ inv .sources i l e;
         untouched = λ i l e. old-cell i (ticket-inside i l) ∙ inv .untouched i l (sym (old-stamp i (ticket-inside i l)) ∙ e);
         fed = λ i p. by-place (length ts) i
             (λ l. rw (old-cell i l) (later-under ts entry-stamps entered-later (getD ts i 0) (getD entry-stamps i 0) (omega (arith, old-stamp i l))
@@ -132,7 +132,7 @@ module _ (cs₀ : List Cell) where
           (inr (rw (sym (inv .sizes), getD-append-seam ts (suc (r .clock)) [] 0) (omega arith)))
 
     -- a slot is finished
-    module _ (s : ℕ) (d : Design) (es : List Entry) (small : s < tickets cs₀) (waiting : getD ts s 0 ≡ 0) (gate : isInput (cellIn cs₀ s) ≡ false) where
+    module _ (s : ℕ) (d : Design) (es : List Entry) (small : s < tickets cs₀) (waiting : getD ts s 0 ≡ 0) (other : isSource (cellIn cs₀ s) ≡ false) where
       abbrev done-stamps : List ℕ
       done-stamps = set ts s (suc (r .clock))
 
@@ -146,7 +146,7 @@ module _ (cs₀ : List Cell) where
       else-stamp i h = getD-set-other ts s i (suc (r .clock)) 0 h
 
       not-s : (i : ℕ) → SettledSlot cs₀ ts i → i ≡ s → ⊥
-      not-s i (inl p) e = true≢false (sym (p .1) ∙ ap (λ x. isInput (cellIn cs₀ x)) e ∙ gate)
+      not-s i (inl p) e = true≢false (sym (p .1) ∙ ap (λ x. isSource (cellIn cs₀ x)) e ∙ other)
       not-s i (inr p) e = omega (arith, p, ap (λ x. getD ts x 0) e, waiting)
 
       pub finished-later : Later ts done-stamps
@@ -164,7 +164,7 @@ module _ (cs₀ : List Cell) where
         clocked = λ i. either (eqb i s)
             (λ e. rw (eqb-true i s e) (omega (arith, here-stamp)))
             (λ e. omega (arith, else-stamp i (eqb-false i s e), inv .clocked i));
-        inputs = λ i l e. else-stamp i (not-s i (inl (l, e))) ∙ inv .inputs i l e;
+        sources = λ i l e. else-stamp i (not-s i (inl (l, e))) ∙ inv .sources i l e;
         untouched = λ i l e. either (eqb i s)
             (λ q. absurd (omega (arith, here-stamp, ap (λ x. getD done-stamps x 0) (eqb-true i s q), e)))
             (λ q. let h : i ≡ s → ⊥ = eqb-false i s q in cells i h ∙ inv .untouched i l (sym (else-stamp i h) ∙ e));

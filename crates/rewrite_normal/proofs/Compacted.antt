@@ -32,9 +32,8 @@ use Rattle.order_laws.specs.Members.{Drives}
 use Rattle.order_laws.proofs.Truth.{either, never, or-none}
 use Rattle.order_laws.proofs.Members.{all-imp, all-both}
 use Rattle.order_laws.proofs.Sorts.{kindIn, ByKind, effects-by, effects-kind, inputs-by, output-kind, same-sort, sort-kept}
-use Rattle.levels_laws.specs.Algebra.{Before, Ranked}
 use Rattle.kept.proofs.Chosen.{chosen, count, count-le, place-of, SlotAt, slot-at}
-use Rattle.kept.proofs.Sound.{bit-continues}
+use Rattle.kept.proofs.Sound.{Inside, bit-continues}
 use Rattle.kept.proofs.Keep.{KeptNet, reads-kept}
 use Rattle.kept.proofs.Compact.{old, cell-at, compact-length, bit-at}
 use Rattle.normal.specs.Paired.{Alike, renumber}
@@ -159,14 +158,13 @@ module _ (end : After) where
           ∙ sym (cell-driver m x e)
 
   back-cell : (j : ℕ) → j < length (compact (left end) .cells) → visitMut back (cell j) ≡ now end (from j)
-  unfolding Ranked
   back-cell j l =
       ap (visitMut back) (cell-from j l)
       ∙ visit-back back mapped (now end (from j))
-      (all-imp (λ m. Before (left end .cells) rank (from j) m × KeptNet (left end) rank sound m) (λ m. back (mapped m) ≡ m)
-      (λ m o. back-mapped m (λ x e. (o .0 x e .0, o .1 x e))) (visit (now end (from j)))
-      (all-both (Before (left end .cells) rank (from j)) (KeptNet (left end) rank sound) (visit (now end (from j)))
-      (sound .ranked (from j) (from-inside j l)) (reads-kept (left end) rank sound (from j) (from-inside j l) (slot j l .passes))))
+      (all-imp (λ m. Inside (left end .cells) m × KeptNet (left end) rank sound m) (λ m. back (mapped m) ≡ m)
+      (λ m o. back-mapped m (λ x e. (o .0 x e, o .1 x e))) (visit (now end (from j)))
+      (all-both (Inside (left end .cells)) (KeptNet (left end) rank sound) (visit (now end (from j)))
+      (sound .inside (from j) (from-inside j l)) (reads-kept (left end) rank sound (from j) (from-inside j l) (slot j l .passes))))
 
   -- a gate of the compacted netlist comes from an added cell
   record Added (j : ℕ) : Type 0 where

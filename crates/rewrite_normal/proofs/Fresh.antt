@@ -18,7 +18,7 @@ use Rattle.value.specs.declared.Driver.the-variants as driven
 use Rattle.value.specs.Value.{UNDEF, ZERO, ONE, driver, fromTrit}
 use Rattle.value.proofs.Laws.{cell-driver, driver-const}
 use Rattle.cell.specs.declared.Cell.{Cell}
-use Rattle.netlist.specs.Shape.{visit, isInput, isOutput, hasEffects}
+use Rattle.netlist.specs.Shape.{visit, isSource, isOutput, hasEffects}
 use Rattle.netlist.specs.Netlist.{cellIn}
 use Rattle.design.specs.declared.Source.{Source}
 use Rattle.design.specs.declared.Source.the-variants.{Opaque, Known}
@@ -33,7 +33,7 @@ use Rattle.order_laws.specs.Members.{Drives}
 use Rattle.order_laws.proofs.Truth.{either}
 use Rattle.order_laws.proofs.Members.{all-imp}
 use Rattle.order_laws.proofs.Operands.{drives-at, drives-in, drives-none}
-use Rattle.order_laws.proofs.Sorts.{gate-by, input-effects}
+use Rattle.order_laws.proofs.Sorts.{other-gate, source-effects}
 use Rattle.order_laws.proofs.Queue.{mapped-final, mapped-once, replacement}
 use Rattle.aig_laws.specs.Reads.{GateOf, SourceNets}
 
@@ -41,9 +41,9 @@ module _ (cs₀ : List Cell) where
   abbrev pub tickets : ℕ
   tickets = length cs₀
 
-  -- of n slots: an input of the ticket, or an added one
+  -- of n slots: a source of the ticket, or an added one
   abbrev pub FreshSlot : ℕ → ℕ → Type 0
-  FreshSlot n s = ((s < tickets) × (isInput (cellIn cs₀ s) ≡ true)) ⊎ ((tickets ≤ s) × (s < n))
+  FreshSlot n s = ((s < tickets) × (isSource (cellIn cs₀ s) ≡ true)) ⊎ ((tickets ≤ s) × (s < n))
 
   unfoldable pub Fresh : ℕ → Net → Type 0
   Fresh n = Drives (FreshSlot n)
@@ -66,7 +66,7 @@ module _ (cs₀ : List Cell) where
   unfolding Fresh
   fresh-more n k l m h x e = slot-more n k (x .0) l (h x e)
 
-  -- what is seen of a fresh net: an added cell, and nothing of an input
+  -- what is seen of a fresh net: an added cell, and nothing of a source
   abbrev pub seenBy : List Cell → Driver → Source
   seenBy cs (driven.Const t) = Opaque
   seenBy cs (driven.Cell s) = cond (ltb (s .0) tickets) Opaque (Known (cellIn cs (s .0)))
@@ -122,7 +122,7 @@ module _ (cs₀ : List Cell) where
     fresh-final m h = go (driver m) refl
       where
         slot : (s : Slot) → driver m ≡ driven.Cell s → FreshSlot total (s .0) → getD rs (s .0) m ≡ m
-        slot s e (inl i) = st .stays (s .0) m (i .0) (input-effects (cellIn cs₀ (s .0)) (i .1)) ∙ sym (cell-driver m s e)
+        slot s e (inl i) = st .stays (s .0) m (i .0) (source-effects (cellIn cs₀ (s .0)) (i .1)) ∙ sym (cell-driver m s e)
         slot s e (inr p) = List·getD-eq-default rs m {n = s .0} (omega (arith, st .wide, p .0))
 
         go : (x : Driver) → driver m ≡ x → drivenTo rs m x ≡ m
@@ -134,7 +134,7 @@ module _ (cs₀ : List Cell) where
 
     -- a net of the ticket that rewriting is through with
     abbrev pub Through : Net → Type 0
-    Through = Drives (λ x. (x < tickets) × (isOutput (cellIn cs₀ x) ≡ false) × (isInput (cellIn cs₀ x) ≡ false → has x before ≡ true))
+    Through = Drives (λ x. (x < tickets) × (isOutput (cellIn cs₀ x) ≡ false) × (isSource (cellIn cs₀ x) ≡ false → has x before ≡ true))
 
     pub map-through : (m : Net) → Through m → Fresh total (mapNetNew rs m)
     unfolding Fresh
@@ -147,9 +147,9 @@ module _ (cs₀ : List Cell) where
         go (driven.Const t) e = same (drives-none (FreshSlot total) m t e)
         go (driven.Cell s) e =
             let k = h s e in
-            either (isInput (cellIn cs₀ (s .0)))
+            either (isSource (cellIn cs₀ (s .0)))
             (λ i. same (drives-at (FreshSlot total) m s e (inl (k .0, i))))
-            (λ i. let f : Fresh total (getD rs (s .0) m) = st .done (s .0) m (k .0) (k .2 i) (gate-by (cellIn cs₀ (s .0)) i (k .1)) in
+            (λ i. let f : Fresh total (getD rs (s .0) m) = st .done (s .0) m (k .0) (k .2 i) (other-gate (cellIn cs₀ (s .0)) i (k .1)) in
             subst (Fresh total) (sym (mapped-once rs m (getD rs (s .0) m) (omega (arith, k .0, st .wide)) (ap (drivenTo rs m) e) (fresh-final (getD rs (s .0) m) f))) f)
 
     -- the look-up of a fresh net
@@ -161,7 +161,7 @@ module _ (cs₀ : List Cell) where
         slot : (s : ℕ) → FreshSlot total s → cond (eqb (getD (r .stamps) s 0) 0) Opaque (Known (cellIn (r .design .cells) s))
             ≡ cond (ltb s tickets) Opaque (Known (cellIn (r .design .cells) s))
         slot s (inl i) =
-            ap (λ (k : ℕ). cond (eqb k 0) Opaque (Known (cellIn (r .design .cells) s))) (st .ports s (i .0) (input-effects (cellIn cs₀ s) (i .1)))
+            ap (λ (k : ℕ). cond (eqb k 0) Opaque (Known (cellIn (r .design .cells) s))) (st .ports s (i .0) (source-effects (cellIn cs₀ s) (i .1)))
             ∙ either (ltb s tickets) (λ e. rw e) (λ e. absurd (omega (arith, i .0, ltb-false s tickets e)))
         slot s (inr p) =
             rw (ne-eqb (getD (r .stamps) s 0) 0 (λ z. omega (arith, z, st .stamped s (p .0) (p .1))))

@@ -19,12 +19,12 @@ use Rattle.compact.specs.Compact.{keep, isKept}
 use Rattle.rewrite.specs.Rewriter.{Rewriter}
 use Rattle.order_laws.specs.Members.{All, Drives}
 use Rattle.order_laws.proofs.Truth.{either}
-use Rattle.order_laws.proofs.Sorts.{effects-mapped, input-effects, effects-by}
+use Rattle.order_laws.proofs.Sorts.{effects-mapped, source-effects, effects-by}
 use Rattle.order_laws.proofs.Members.{all-imp}
 use Rattle.order_laws.proofs.Operands.{visited-all}
 use Rattle.order_laws.proofs.Queue.{applied-at, applied-length}
 use Rattle.order_laws.proofs.Lists.{getD-padded}
-use Rattle.kept.proofs.Sound.{Sound, Bit, output-bits, start-inside, start-kind, same-by}
+use Rattle.kept.proofs.Sound.{Sound, Bit, output-bits, start-inside, start-kind, same-by, sound-wired}
 use Rattle.kept.proofs.Keep.{marked-has}
 use Rattle.rewrite_sound.proofs.Operands.{follow}
 use Rattle.rewrite_sound.proofs.Applied.{appliedNetlist}
@@ -99,7 +99,7 @@ module _ (end : After) where
   ticket-reads s l =
       subst (λ (c : Cell). All (Fresh cs₀ total) (visit c))
       (sym (applied-at (r .design) s (let m : tickets ≤ total = st .many in omega arith) ∙ ap (visitMut (follow r)) (st .olds s l)))
-      (visited-all (Fresh cs₀ total) (follow r) (cellIn cs₀ s) (ticket-fresh cs₀ rank₀ (sound₀ .ranked) (sound₀ .driven) plain r st s l))
+      (visited-all (Fresh cs₀ total) (follow r) (cellIn cs₀ s) (ticket-fresh cs₀ rank₀ (sound₀ .ranked) (sound-wired (end .ticket) rank₀ sound₀) plain r st s l))
 
   pub reads-fresh : (s : ℕ) → s < total → All (Fresh cs₀ total) (visit (now s))
   reads-fresh s l = either (ltb s tickets) (λ e. ticket-reads s (ltb-true s tickets e)) (λ e. added-reads s (ltb-false s tickets e) l)
@@ -124,7 +124,7 @@ module _ (end : After) where
       let l : s < total = let m : tickets ≤ total = st .many in let k : s < tickets = i .0 in omega arith in
       record {
         inside = let b : startOf (left .bits) s < length (applied (r .design)) = start-inside left rank sound s (omega (arith, same-length)) in omega (arith, same-length);
-        sort = inl (kind-stays s l ∙ ticket-effects s (i .0) ∙ input-effects (cellIn cs₀ s) (i .1));
+        sort = inl (kind-stays s l ∙ ticket-effects s (i .0) ∙ source-effects (cellIn cs₀ s) (i .1));
       }
   start-stays s (inr p) =
       let b : getD (left .bits) s 0 ≡ 0 = added-bit s (p .0) in

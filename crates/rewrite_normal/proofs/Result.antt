@@ -8,6 +8,7 @@ use Rattle.compact.specs.Compact.{compact}
 use Rattle.rewrite.specs.Rewriter.{Rewriter}
 use Rattle.rewrite.specs.Rewrite.{run, slotsOf, rewrite}
 use Rattle.rewrite_laws.proofs.Running.{run-ok}
+use Rattle.order_laws.proofs.Bits.{sourcesLast}
 use Rattle.levels_laws.proofs.Ranks.{ranked-falls}
 use Rattle.kept.proofs.Sound.{Sound, sound-wired}
 use Rattle.kept.proofs.Compact.{compact-sound}
@@ -26,7 +27,7 @@ use Rattle.rewrite_normal.proofs.Left.{After}
 module _ (d : Netlist) (rank : ℕ → ℕ) (sound : Sound d rank) where
   pub sound-ran : slotsOf (run findNewCell (d .cells)) ≤ 1024 → Ran findNewCell (d .cells)
   sound-ran few =
-      ran-by findNewCell (d .cells) (sound-wired d rank sound) (run-ok (d .cells) (sound-wired d rank sound) rank (ranked-falls (d .cells) rank (sound .ranked))) few
+      ran-by findNewCell (d .cells) (sound-wired d rank sound) (run-ok (d .cells) (sound-wired d rank sound) (sourcesLast (d .cells) rank) (ranked-falls (d .cells) rank (sound .ranked))) few
 
 -- the law
 module _ (d : Netlist) (rank : ℕ → ℕ) (sound : Sound d rank) (plain : Plain (d .cells)) (x : Ran findNewCell (d .cells)) where
@@ -38,7 +39,7 @@ module _ (d : Netlist) (rank : ℕ → ℕ) (sound : Sound d rank) (plain : Plai
 
   last-state : State (d .cells) (topoSort (d .cells)) r
   last-state =
-      subst (RunState (d .cells) (topoSort (d .cells))) (x .is) (run-state (d .cells) rank (sound .ranked) (sound .driven) plain) (x .ended .few)
+      subst (RunState (d .cells) (topoSort (d .cells))) (x .is) (run-state (d .cells) rank (sound .ranked) (sound-wired d rank sound) plain) (x .ended .few)
 
   after : After
   after = record {

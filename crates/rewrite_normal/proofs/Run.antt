@@ -19,8 +19,8 @@ use Rattle.design.specs.Queue.{netIn, unchanged, mapNetNew, findNewCell, replac
 use Rattle.rewrite.specs.Rewriter.{Rewriter, begun, finished}
 use Rattle.rewrite.specs.Rewrite.{Added, at, unadded, processCell, addCell, Run, bitDone, cellDone, runItem, run}
 use Rattle.order_laws.specs.Ordered.{has}
-use Rattle.order_laws.specs.Members.{All}
-use Rattle.order_laws.proofs.Bits.{topoSort-each, topoSort-fed, reads-deps}
+use Rattle.order_laws.specs.Members.{All, Wired}
+use Rattle.order_laws.proofs.Bits.{topoSort-each, topoSort-fed, reads-deps, sourcesLast}
 use Rattle.order_laws.proofs.Truth.{either, never}
 use Rattle.order_laws.proofs.Members.{has-snoc, has-snoc-other, all-imp, all-both}
 use Rattle.order_laws.proofs.Sorts.{effects-mapped, effects-kind, kind-last, kindIn, sort-kept, splittable-kind}
@@ -29,7 +29,6 @@ use Rattle.rewrite_laws.proofs.Kept.{KeptAdded, addCell-kept}
 use Rattle.rewrite_laws.proofs.Items.{Along, FewSlots, few-item, item-by, port-done, run-along}
 use Rattle.levels_laws.specs.Algebra.{Ranked}
 use Rattle.levels_laws.proofs.Ranks.{ranked-falls}
-use Rattle.kept.proofs.Sound.{NoOutput}
 use Rattle.rewrite_normal.specs.Plain.{isAig, Plain}
 use Rattle.rewrite_normal.proofs.Cells.{aig-kind, aigs-by}
 use Rattle.rewrite_normal.proofs.Fresh.{Fresh, State, Through, map-through}
@@ -96,16 +95,15 @@ module _ (cs₀ : List Cell) where
   abbrev pub RunState : List ℕ → Run → Type 0
   RunState = Along (λ before r. FewSlots r → State cs₀ before r) (λ r. FewSlots r → Unit {0})
 
-  -- the netlist is wired: each operand names a slot of lower rank that is no output
-  module _ (rank : ℕ → ℕ) (ranked : Ranked cs₀ rank) (driven : (s : ℕ) → s < tickets → All (NoOutput cs₀) (visit (cellIn cs₀ s))) (plain : Plain cs₀) where
+  -- the netlist is wired: each operand names a slot that is no output, and a rank falls along what is read within a tick
+  module _ (rank : ℕ → ℕ) (ranked : Ranked cs₀ rank) (wired : (s : ℕ) → s < tickets → All (Wired cs₀) (visit (cellIn cs₀ s))) (plain : Plain cs₀) where
     -- the operands of a slot whose dependencies are done
     through : (before : List ℕ) (s : ℕ) → s < tickets → ((d : ℕ) → has d (bitDeps cs₀ s) ≡ true → d < tickets → has d before ≡ true)
         → (r : Rewriter) (st : State cs₀ before r) → All (Through cs₀ before r st) (visit (cellIn cs₀ s))
-    unfolding Ranked
     through before s l after r st =
         let ns : List Net = visit (cellIn cs₀ s) in
-        all-imp _ (Through cs₀ before r st) (λ m a x e. (a .0 x e .0, a .1 .0 x e, λ i. after (x .0) (a .1 .1 x e i) (a .0 x e .0))) ns
-        (all-both _ _ ns (ranked s l) (all-both _ _ ns (driven s l) (reads-deps cs₀ s)))
+        all-imp _ (Through cs₀ before r st) (λ m a x e. let w = a .0 x e in (w .0, w .1, λ i. after (x .0) (a .1 x e i) (w .0))) ns
+        (all-both _ _ ns (wired s l) (reads-deps cs₀ s))
 
     -- at the end all are done
     pub ticket-fresh : (r : Rewriter) → State cs₀ (topoSort cs₀) r → (s : ℕ) → s < tickets
@@ -173,7 +171,7 @@ module _ (cs₀ : List Cell) where
     -- the law
     pub run-state : RunState (topoSort cs₀) (run findNewCell cs₀)
     run-state =
-        run-along cs₀ (λ before r. FewSlots r → State cs₀ before r) (λ r. FewSlots r → Unit {0}) findNewCell (topoSort-fed cs₀ rank (ranked-falls cs₀ rank ranked))
+        run-along cs₀ (λ before r. FewSlots r → State cs₀ before r) (λ r. FewSlots r → Unit {0}) findNewCell (topoSort-fed cs₀ (sourcesLast cs₀ rank) (ranked-falls cs₀ rank ranked))
         (λ before s n r p. few-item (State cs₀) (λ r. Unit {0}) findNewCell tickets s (n .small) (before ++ (s ∷ [])) r
         (λ few. item-state before s (n .small) (n .fed) r (p few)))
         (λ few. begun-state)

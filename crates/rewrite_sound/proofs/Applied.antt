@@ -19,12 +19,13 @@ use Rattle.rewrite.specs.Rewriter.{Rewriter}
 use Rattle.order_laws.specs.Members.{All}
 use Rattle.order_laws.proofs.Truth.{either, never}
 use Rattle.order_laws.proofs.Members.{all-imp}
+use Rattle.order_laws.proofs.Operands.{comb-all}
 use Rattle.order_laws.proofs.Sorts.{record-bit, output-mapped, effects-kind, kind-last, splittable-kind}
 use Rattle.order_laws.proofs.Lists.{getD-padded}
 use Rattle.order_laws.proofs.Queue.{applied-at, applied-length}
 use Rattle.levels_laws.specs.Algebra.{Before, Ranked}
 use Rattle.kept.proofs.Records.{Continues, sequence-zero, sequence-mapped}
-use Rattle.kept.proofs.Sound.{recordIn, NoOutput, Sound, bit-continues}
+use Rattle.kept.proofs.Sound.{recordIn, Inside, NoOutput, Sound, bit-continues}
 use Rattle.kept.proofs.Bytes.{labelOf, Labelled, gate-label}
 use Rattle.rewrite_sound.proofs.Shaped.{InPlace, Holds}
 use Rattle.rewrite_sound.proofs.Operands.{Ended, was, follow, rank, Operand, operands-below, Below, operand-slot}
@@ -66,9 +67,16 @@ module _ (d₀ : Netlist) (rank₀ : ℕ → ℕ) (sound₀ : Sound d₀ rank₀
   is-ranked : Ranked cs ranks
   unfolding Ranked
   is-ranked s l =
-      all-imp (Operand cs₀ r end s) (Before cs ranks s)
+      comb-all (Before cs ranks s) (cellIn cs s)
+      (all-imp (Operand cs₀ r end s) (Before cs ranks s)
       (λ m o x e. let b : Below cs₀ r end s (x .0) = operand-slot cs₀ r end s m o x e in
       (let i : x .0 < length (r .design .cells) = b .inside in omega (arith, slots), b .falls))
+      (visit (cellIn cs s)) (operands-below cs₀ r end s l))
+
+  is-inside : (s : ℕ) → s < length cs → All (Inside cs) (visit (cellIn cs s))
+  is-inside s l =
+      all-imp (Operand cs₀ r end s) (Inside cs)
+      (λ m o x e. let i : x .0 < length (r .design .cells) = operand-slot cs₀ r end s m o x e .inside in omega (arith, slots))
       (visit (cellIn cs s)) (operands-below cs₀ r end s l)
 
   is-driven : (s : ℕ) → s < length cs → All (NoOutput cs) (visit (cellIn cs s))
@@ -123,6 +131,7 @@ module _ (d₀ : Netlist) (rank₀ : ℕ → ℕ) (sound₀ : Sound d₀ rank₀
         ∙ omega (arith, bits-wide, more-slots cs₀ r end);
     few = omega (arith, slots);
     ranked = is-ranked;
+    inside = is-inside;
     driven = is-driven;
     sequence = is-sequence;
   }

@@ -14,7 +14,7 @@ use Rattle.value.specs.declared.Slot.{Slot}
 use Rattle.value.specs.declared.Driver.the-variants as driven
 use Rattle.value.specs.Value.{driver}
 use Rattle.cell.specs.declared.Cell.{Cell}
-use Rattle.netlist.specs.Shape.{visit, isInput, isOutput, hasEffects}
+use Rattle.netlist.specs.Shape.{visit, isInput, isSource, isOutput, hasEffects}
 use Rattle.netlist.specs.Netlist.{cellIn}
 use Rattle.order.specs.Orders.{topoSort}
 use Rattle.design.specs.Queue.{mapNetNew, applied}
@@ -25,7 +25,7 @@ use Rattle.order_laws.proofs.Bits.{topoSort-each}
 use Rattle.order_laws.proofs.Truth.{either, never}
 use Rattle.order_laws.proofs.Members.{all-imp}
 use Rattle.order_laws.proofs.Operands.{input-reads, visited-all}
-use Rattle.order_laws.proofs.Sorts.{gate-by, gate-parts, input-effects, input-no-output}
+use Rattle.order_laws.proofs.Sorts.{gate-by, gate-parts, other-gate, source-effects, source-no-output}
 use Rattle.order_laws.proofs.Queue.{applied-at, applied-length}
 use Rattle.rewrite_laws.proofs.Settled.{limit, stamped-inside, SettledSlot, Settled, Under, Inv, map-settled, map-lower, stamp-driven}
 use Rattle.rewrite_laws.proofs.Keeping.{State}
@@ -81,7 +81,7 @@ module _ (cs₀ : List Cell) (r : Rewriter) (end : Ended cs₀ r) where
   pub settled-slot : (s : ℕ) → SettledSlot cs₀ ts s → (s < total) × (isOutput (was r s) ≡ false)
   settled-slot s (inl i) = (
     let m : length cs₀ ≤ total = inv .many in let l : s < length cs₀ = i .0 in omega arith,
-    ap isOutput (port-stays s (i .0) (input-effects (cellIn cs₀ s) (i .1))) ∙ input-no-output (cellIn cs₀ s) (i .1),
+    ap isOutput (port-stays s (i .0) (source-effects (cellIn cs₀ s) (i .1))) ∙ source-no-output (cellIn cs₀ s) (i .1),
   )
   settled-slot s (inr p) = (inside, gate-parts (was r s) gate .1)
     where
@@ -100,8 +100,8 @@ module _ (cs₀ : List Cell) (r : Rewriter) (end : Ended cs₀ r) where
   unfolding Settled
   wired-settled m w x e =
       let k = w x e in
-      either (isInput (cellIn cs₀ (x .0))) (λ i. inl (k .0, i))
-      (λ i. inr (end .state .done (x .0) (k .0) (topoSort-each cs₀ .all (x .0) (k .0)) (gate-by (cellIn cs₀ (x .0)) i (k .1))))
+      either (isSource (cellIn cs₀ (x .0))) (λ i. inl (k .0, i))
+      (λ i. inr (end .state .done (x .0) (k .0) (topoSort-each cs₀ .all (x .0) (k .0)) (other-gate (cellIn cs₀ (x .0)) i (k .1))))
 
   -- the operands of a slot before the queue is applied
   abbrev Lower : ℕ → Net → Type 0

@@ -22,7 +22,7 @@ use Rattle.order_laws.specs.Ordered.{has, OnceAfter, FedAfter}
 use Rattle.order_laws.specs.Members.{All, Wired}
 use Rattle.order_laws.proofs.Truth.{either, never}
 use Rattle.order_laws.proofs.Members.{all-imp, has-first, has-later}
-use Rattle.order_laws.proofs.Sorts.{gate-parts}
+use Rattle.order_laws.proofs.Sorts.{gate-other}
 use Rattle.order_laws.proofs.Bits.{topoSort-each}
 use Rattle.rewrite_laws.proofs.Settled.{stamped-inside, SettledSlot, Settled, StandsFor, Inv, map-settled}
 use Rattle.rewrite_laws.proofs.Kept.{Keeps, KeptResult, processCell-kept}
@@ -163,7 +163,7 @@ module _ (cs : List Cell) where
           go h k l = slot (k .1 (omega arith) (slotAt s) (ap driver q ∙ driver-cell (slotAt s) (omega (arith, small, k .0 (omega arith) .inv .many))))
             where
               slot : SettledSlot cs (r′ .stamps) s → ⊥
-              slot (inl i) = true≢false (sym (i .1) ∙ gate-parts (cellIn cs s) (sym same-effects ∙ h) .0)
+              slot (inl i) = true≢false (sym (i .1) ∙ gate-other (cellIn cs s) (sym same-effects ∙ h))
               slot (inr i) = omega (arith, i, k .0 (omega arith) .waiting s small new)
 
       item-goes : ItemGoes cs s r

@@ -5,7 +5,7 @@ use native.Mathlib.Omega.{arith}
 use lib.Dec.{lit≤}
 use Rattle.order.specs.Code.{unvisitedIn}
 use Rattle.order.proofs.Walking.{walks-visited, walks-ready, walks-falls, walks-falls-2, walks-ready-2, is-new, marked-falls, marked-ready}
-use Rattle.order.proofs.Bits.{net-constant, net-input, net-bit, operands-done, bit-next, bit-done}
+use Rattle.order.proofs.Bits.{net-constant, net-source, net-bit, operands-done, bit-next, bit-done}
 use Prim.Native.Nat.{ℕ, _+_, _*_, _<_}
 use borrow.Fn.Kinds.{In}
 use borrow.Fn.PlainCycle.{Measures, is, falls, and}
@@ -22,7 +22,7 @@ use Rattle.order.proofs.walk_operands.Reads as walk-operands
 use Rattle.order.proofs.walk_operands.Kinds as walk-operands-kinds
 use Rattle.order.proofs.+visit_bit+walk_bit+walk_net+walk_operands.Lts-walk_operands as walk-operands-lts
 use Rattle.cell.proofs.put.Reads as put-reads
-use Rattle.order.proofs.is_input.Reads as is-input-reads
+use Rattle.order.proofs.is_source.Reads as is-source-reads
 use Rattle.order.proofs.is_visited.Reads as is-visited-reads
 use Rattle.order.proofs.operands_at.Reads as operands-at-reads
 use Rattle.value.proofs.Net.as_cell_index.Reads as as-cell-index-reads
@@ -253,8 +253,8 @@ walk-bit-returns-2 t c = search needs
 walk-net-as-cell-index-requires : (t : ℕ) → walk-net-lts.Need-as-cell-index-requires (
   as-cell-index-reads.Asked,
   as-cell-index-reads.Learnt,
-  is-input-reads.Asked,
-  is-input-reads.Learnt,
+  is-source-reads.Asked,
+  is-source-reads.Learnt,
   walk-bit-below t,
   walk-bit.Post,
 ) (walk-net-at t) walk-net.Post
@@ -264,8 +264,8 @@ walk-net-as-cell-index-requires t c κs = search needs
 walk-net-enum-told : (t : ℕ) → walk-net-lts.Need-enum-told (
   as-cell-index-reads.Asked,
   as-cell-index-reads.Learnt,
-  is-input-reads.Asked,
-  is-input-reads.Learnt,
+  is-source-reads.Asked,
+  is-source-reads.Learnt,
   walk-bit-below t,
   walk-bit.Post,
 ) (walk-net-at t) walk-net.Post
@@ -275,30 +275,30 @@ walk-net-enum-told t c = search needs
 walk-net-enum-known-s : (t : ℕ) → walk-net-lts.Need-enum-known-s (
   as-cell-index-reads.Asked,
   as-cell-index-reads.Learnt,
-  is-input-reads.Asked,
-  is-input-reads.Learnt,
+  is-source-reads.Asked,
+  is-source-reads.Learnt,
   walk-bit-below t,
   walk-bit.Post,
 ) (walk-net-at t) walk-net.Post
 walk-net-enum-known-s t c = search needs
 
 -- src/lib.rt
-walk-net-is-input-requires : (t : ℕ) → walk-net-lts.Need-is-input-requires (
+walk-net-is-source-requires : (t : ℕ) → walk-net-lts.Need-is-source-requires (
   as-cell-index-reads.Asked,
   as-cell-index-reads.Learnt,
-  is-input-reads.Asked,
-  is-input-reads.Learnt,
+  is-source-reads.Asked,
+  is-source-reads.Learnt,
   walk-bit-below t,
   walk-bit.Post,
 ) (walk-net-at t) walk-net.Post
-walk-net-is-input-requires t c κs = search needs
+walk-net-is-source-requires t c κs = search needs
 
 -- src/lib.rt
 walk-net-same-length : (t : ℕ) → walk-net-lts.Need-same-length (
   as-cell-index-reads.Asked,
   as-cell-index-reads.Learnt,
-  is-input-reads.Asked,
-  is-input-reads.Learnt,
+  is-source-reads.Asked,
+  is-source-reads.Learnt,
   walk-bit-below t,
   walk-bit.Post,
 ) (walk-net-at t) walk-net.Post
@@ -308,19 +308,19 @@ walk-net-same-length t c = search needs
 walk-net-returns : (t : ℕ) → walk-net-lts.Need-returns (
   as-cell-index-reads.Asked,
   as-cell-index-reads.Learnt,
-  is-input-reads.Asked,
-  is-input-reads.Learnt,
+  is-source-reads.Asked,
+  is-source-reads.Learnt,
   walk-bit-below t,
   walk-bit.Post,
 ) (walk-net-at t) walk-net.Post
-walk-net-returns t c = search net-input
+walk-net-returns t c = search net-source
 
 -- src/lib.rt
 walk-net-walk-bit-requires : (t : ℕ) → walk-net-lts.Need-walk-bit-requires (
   as-cell-index-reads.Asked,
   as-cell-index-reads.Learnt,
-  is-input-reads.Asked,
-  is-input-reads.Learnt,
+  is-source-reads.Asked,
+  is-source-reads.Learnt,
   walk-bit-below t,
   walk-bit.Post,
 ) (walk-net-at t) walk-net.Post
@@ -330,8 +330,8 @@ walk-net-walk-bit-requires t c κs = (omega arith, search needs)
 walk-net-returns-2 : (t : ℕ) → walk-net-lts.Need-returns-2 (
   as-cell-index-reads.Asked,
   as-cell-index-reads.Learnt,
-  is-input-reads.Asked,
-  is-input-reads.Learnt,
+  is-source-reads.Asked,
+  is-source-reads.Learnt,
   walk-bit-below t,
   walk-bit.Post,
 ) (walk-net-at t) walk-net.Post
@@ -341,8 +341,8 @@ walk-net-returns-2 t c = search net-constant
 walk-net-same-length-2 : (t : ℕ) → walk-net-lts.Need-same-length-2 (
   as-cell-index-reads.Asked,
   as-cell-index-reads.Learnt,
-  is-input-reads.Asked,
-  is-input-reads.Learnt,
+  is-source-reads.Asked,
+  is-source-reads.Learnt,
   walk-bit-below t,
   walk-bit.Post,
 ) (walk-net-at t) walk-net.Post
@@ -352,8 +352,8 @@ walk-net-same-length-2 t c = search needs
 walk-net-returns-3 : (t : ℕ) → walk-net-lts.Need-returns-3 (
   as-cell-index-reads.Asked,
   as-cell-index-reads.Learnt,
-  is-input-reads.Asked,
-  is-input-reads.Learnt,
+  is-source-reads.Asked,
+  is-source-reads.Learnt,
   walk-bit-below t,
   walk-bit.Post,
 ) (walk-net-at t) walk-net.Post
@@ -439,8 +439,8 @@ pub +visit-bit+walk-bit+walk-net+walk-operands-spec : {M : Type 1} → statement
     (λ t. walk-net-lts.spec (
       as-cell-index-reads.Asked,
       as-cell-index-reads.Learnt,
-      is-input-reads.Asked,
-      is-input-reads.Learnt,
+      is-source-reads.Asked,
+      is-source-reads.Learnt,
       walk-bit-below t,
       walk-bit.Post,
     )
@@ -449,7 +449,7 @@ pub +visit-bit+walk-bit+walk-net+walk-operands-spec : {M : Type 1} → statement
     (walk-net-as-cell-index-requires t)
     (walk-net-enum-told t)
     (walk-net-enum-known-s t)
-    (walk-net-is-input-requires t)
+    (walk-net-is-source-requires t)
     (walk-net-same-length t)
     (walk-net-returns t)
     (walk-net-walk-bit-requires t)

@@ -4,8 +4,8 @@ use borrow.Author.Needs.{needs}
 use Rattle.order.proofs.iter_cells_topo.Statement.{statement}
 use Rattle.order.proofs.iter_cells_topo.Tie as tie
 
-put-inputs-requires : tie.Need-put-inputs-requires
-put-inputs-requires c κs = search needs
+put-sources-requires : tie.Need-put-sources-requires
+put-sources-requires c κs = search needs
 
 walk-starts-requires : tie.Need-walk-starts-requires
 walk-starts-requires c κs = search needs
@@ -22,4 +22,4 @@ returns c = search cells-sorted
 pub iter-cells-topo-spec : {M : Type 1} → statement M
 iter-cells-topo-spec =
     tie.close
-    (tie.spec put-inputs-requires walk-starts-requires put-outputs-requires same-length returns)
+    (tie.spec put-sources-requires walk-starts-requires put-outputs-requires same-length returns)

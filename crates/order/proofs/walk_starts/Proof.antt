@@ -7,10 +7,10 @@ use Rattle.order.proofs.walk_starts.Statement.{statement}
 use Rattle.order.proofs.walk_starts.Tie as tie
 
 abbrev Inv-loop : tie.InvT-loop
-Inv-loop work₀ n inputs count₀ s₀ work count s = Going notOutput n inputs work₀ work count s
+Inv-loop work₀ n sources count₀ s₀ work count s = Going notOutput n sources work₀ work count s
 
 abbrev μ-loop : tie.MeasureT-loop
-μ-loop work₀ n inputs count₀ s₀ work count s = n - s
+μ-loop work₀ n sources count₀ s₀ work count s = n - s
 
 loop-holds : tie.Need-loop-holds Inv-loop μ-loop
 loop-holds c = search going-begins

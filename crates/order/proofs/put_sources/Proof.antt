@@ -1,9 +1,9 @@
--- `order::put_inputs` meets its contract. Assumes nothing.
+-- `order::put_sources` meets its contract. Assumes nothing.
 use Prim.Native.Nat.{_-_}
 use Rattle.order.proofs.Starts.{Putting, putting-begins, putting-ready, putting-new, putting-more, putting-ends}
 use borrow.Author.Needs.{needs}
-use Rattle.order.proofs.put_inputs.Statement.{statement}
-use Rattle.order.proofs.put_inputs.Tie as tie
+use Rattle.order.proofs.put_sources.Statement.{statement}
+use Rattle.order.proofs.put_sources.Tie as tie
 
 abbrev Inv-loop : tie.InvT-loop
 Inv-loop work₀ n count₀ s₀ work count s = Putting n work₀ work count s
@@ -17,8 +17,8 @@ clear-marks-requires c κs = search needs
 loop-holds : tie.Need-loop-holds Inv-loop μ-loop
 loop-holds c = search putting-begins
 
-put-input-requires : tie.Need-put-input-requires Inv-loop μ-loop
-put-input-requires c κs = (search putting-ready, search putting-new)
+put-source-requires : tie.Need-put-source-requires Inv-loop μ-loop
+put-source-requires c κs = (search putting-ready, search putting-new)
 
 add-s : tie.Need-add-s Inv-loop μ-loop
 add-s c = search needs
@@ -35,15 +35,15 @@ same-length c = search needs
 returns : tie.Need-returns Inv-loop μ-loop
 returns c = search putting-ends
 
-pub put-inputs-spec : {M : Type 1} → statement M
-put-inputs-spec =
+pub put-sources-spec : {M : Type 1} → statement M
+put-sources-spec =
     tie.close
     (tie.spec
     Inv-loop
     μ-loop
     clear-marks-requires
     loop-holds
-    put-input-requires
+    put-source-requires
     add-s
     loop-less
     loop-again

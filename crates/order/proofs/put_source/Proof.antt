@@ -1,8 +1,8 @@
--- `order::put_input` meets its contract. Assumes nothing.
+-- `order::put_source` meets its contract. Assumes nothing.
 use Rattle.order.proofs.Starts.{emit-inside, emit-done, emit-left}
 use borrow.Author.Needs.{needs}
-use Rattle.order.proofs.put_input.Statement.{statement}
-use Rattle.order.proofs.put_input.Tie as tie
+use Rattle.order.proofs.put_source.Statement.{statement}
+use Rattle.order.proofs.put_source.Tie as tie
 
 bit-of-requires : tie.Need-bit-of-requires
 bit-of-requires c κs = search needs
@@ -13,8 +13,8 @@ same-length c = search needs
 returns : tie.Need-returns
 returns c = search emit-inside
 
-is-input-requires : tie.Need-is-input-requires
-is-input-requires c κs = search needs
+is-source-requires : tie.Need-is-source-requires
+is-source-requires c κs = search needs
 
 cast-put : tie.Need-cast-put
 cast-put c = search needs
@@ -46,14 +46,14 @@ same-length-3 c = search needs
 returns-3 : tie.Need-returns-3
 returns-3 c = search emit-left
 
-pub put-input-spec : {M : Type 1} → statement M
-put-input-spec =
+pub put-source-spec : {M : Type 1} → statement M
+put-source-spec =
     tie.close
     (tie.spec
     bit-of-requires
     same-length
     returns
-    is-input-requires
+    is-source-requires
     cast-put
     add-put
     put-requires
