@@ -113,7 +113,7 @@ no-field r f x n e = let z : Nowhere ≡ To x = sym (ap (λ (b : Bool). cond b (
 
 source-fields : (bit : ℕ) (c : Cell) → isSource c ≡ true
     → (isCombEdge (cellRecord bit c) 1 ≡ false) × (isCombEdge (cellRecord bit c) 2 ≡ false) × (isCombEdge (cellRecord bit c) 3 ≡ false)
-unfolding isCombEdge isOperand useOf kindOf cellRecord
+unfolding isCombEdge isOperand useOf kindOf cellRecord sortOf
 source-fields bit (Input l) e = (refl, refl, refl)
 source-fields bit (Output a l) e = clash e
 source-fields bit (Buf a) e = clash e

@@ -30,7 +30,7 @@ is-source-requires c κs = search needs
 
 -- src/lib.rt
 returns : tie.Need-returns
-returns c = c .is-source .ensures ∙ source-word _ _ _ (c .before .before .word .ensures)
+returns c = c .is-source .ensures ∙ source-word _ _ _ (c .before .word .ensures)
 
 pub is-source-spec : {M : Type 1} → statement M
 is-source-spec =
