@@ -13,12 +13,11 @@ use outcome::Tally;
 use step::Step;
 use trial::Lent;
 
+// What is replayed. Of levels a ticket has three assignments.
 enum Call {
     Check,
     Levels,
-    Compact,
-    Merge,
-    Rewrite,
+    Replying(trial::Call),
 }
 
 fn judge(
@@ -31,20 +30,22 @@ fn judge(
 ) -> Step {
     let fd = files.expected;
     let words = slices.work;
-    let lent = Lent {
-        words,
-        bytes: slices.reply,
-    };
-    let level_lent = Lent {
-        words,
-        bytes: slices.level_reply,
-    };
     match call {
         Call::Check => check::judge(fd, ticket, space, words, seed),
-        Call::Levels => reply::judge_levels(files, ticket, space, level_lent, seed),
-        Call::Compact => { reply::judge(trial::Call::Compact, fd, ticket, b"", space, lent, seed) }
-        Call::Merge => reply::judge(trial::Call::Merge, fd, ticket, b"", space, lent, seed),
-        Call::Rewrite => { reply::judge(trial::Call::Rewrite, fd, ticket, b"", space, lent, seed) }
+        Call::Levels => {
+            let lent = Lent {
+                words,
+                bytes: slices.level_reply,
+            };
+            reply::judge_levels(files, ticket, space, lent, seed)
+        }
+        Call::Replying(replying) => {
+            let lent = Lent {
+                words,
+                bytes: slices.reply,
+            };
+            reply::judge(replying, fd, ticket, b"", space, lent, seed)
+        }
     }
 }
 
@@ -146,8 +147,8 @@ fn replay(call: Call, name: &[u8]) {
 
 fn main() {
     replay(Call::Check, b"check");
-    replay(Call::Compact, b"compact");
-    replay(Call::Merge, b"merge");
-    replay(Call::Rewrite, b"rewrite");
+    replay(Call::Replying(trial::Call::Compact), b"compact");
+    replay(Call::Replying(trial::Call::Merge), b"merge");
+    replay(Call::Replying(trial::Call::Rewrite), b"rewrite");
     replay(Call::Levels, b"levels");
 }
