@@ -2,24 +2,22 @@
 // those on which the library differs from the oracle, and before it a line for each of these.
 mod check;
 mod entry;
-mod files;
 mod reply;
 mod step;
 
-use entry::Slices;
-use files::Files;
-use files::Next;
+use oracle_list::Files;
+use oracle_list::Next;
+use oracle_list::Slices;
+use outcome::Outcome;
+use outcome::Tally;
 use step::Step;
 use trial::Lent;
-use trial::Outcome;
-use trial::Tally;
 
+// What is replayed. Of levels a ticket has three assignments.
 enum Call {
     Check,
     Levels,
-    Compact,
-    Merge,
-    Rewrite,
+    Replying(trial::Call),
 }
 
 fn judge(
@@ -32,20 +30,22 @@ fn judge(
 ) -> Step {
     let fd = files.expected;
     let words = slices.work;
-    let lent = Lent {
-        words,
-        bytes: slices.reply,
-    };
-    let level_lent = Lent {
-        words,
-        bytes: slices.level_reply,
-    };
     match call {
         Call::Check => check::judge(fd, ticket, space, words, seed),
-        Call::Levels => reply::judge_levels(files, ticket, space, level_lent, seed),
-        Call::Compact => { reply::judge(trial::Call::Compact, fd, ticket, b"", space, lent, seed) }
-        Call::Merge => reply::judge(trial::Call::Merge, fd, ticket, b"", space, lent, seed),
-        Call::Rewrite => { reply::judge(trial::Call::Rewrite, fd, ticket, b"", space, lent, seed) }
+        Call::Levels => {
+            let lent = Lent {
+                words,
+                bytes: slices.level_reply,
+            };
+            reply::judge_levels(files, ticket, space, lent, seed)
+        }
+        Call::Replying(replying) => {
+            let lent = Lent {
+                words,
+                bytes: slices.reply,
+            };
+            reply::judge(replying, fd, ticket, b"", space, lent, seed)
+        }
     }
 }
 
@@ -70,7 +70,7 @@ fn tried(
         files,
         &buffer[..bytes],
         space,
-        entry::slices_of(&x),
+        oracle_list::slices_of(&x),
         seed,
     )
 }
@@ -78,11 +78,11 @@ fn tried(
 // Whether the call's files are read to their ends.
 fn is_all_read(call: Call, files: Files) -> bool {
     if let Call::Levels = call {
-        if !files::is_at_end(files.stimuli) {
+        if !oracle_list::is_at_end(files.stimuli) {
             return false;
         }
     }
-    files::is_at_end(files.slices) && files::is_at_end(files.expected)
+    oracle_list::is_at_end(files.slices) && oracle_list::is_at_end(files.expected)
 }
 
 fn ended(call: Call, files: Files) -> Step {
@@ -95,7 +95,7 @@ fn ended(call: Call, files: Files) -> Step {
 
 // One ticket of the list.
 fn one(call: Call, files: Files, buffer: &mut [u8], space: &mut [u32], seed: u32) -> Step {
-    match files::next_ticket(files.tickets, buffer) {
+    match oracle_list::next_ticket(files.tickets, buffer) {
         Next::Read(n) => tried(call, files, buffer, n, space, seed),
         Next::End => ended(call, files),
         Next::Torn => Step::Torn,
@@ -109,7 +109,7 @@ fn differs(name: &[u8], number: u32, outcome: Outcome) -> bool {
     io::write_all(1, name);
     io::write_all(1, b" ticket ");
     io::print_decimal(1, number as u64);
-    trial::tell(outcome);
+    outcome::tell(outcome);
     true
 }
 
@@ -135,11 +135,11 @@ fn run(call: Call, name: &[u8], files: Files, buffer: &mut [u8], space: &mut [u3
 }
 
 fn replay(call: Call, name: &[u8]) {
-    let files = files::open(name);
+    let files = oracle_list::open(name);
     let mut buffer = [0; 16384];
     let mut space = [0; 17000];
     let tally = run(call, name, files, &mut buffer, &mut space);
-    files::close(files);
+    oracle_list::close(files);
     io::write_all(1, name);
     io::write_all(1, b" ");
     tally.tell(b" tickets, ");
@@ -147,8 +147,8 @@ fn replay(call: Call, name: &[u8]) {
 
 fn main() {
     replay(Call::Check, b"check");
-    replay(Call::Compact, b"compact");
-    replay(Call::Merge, b"merge");
-    replay(Call::Rewrite, b"rewrite");
+    replay(Call::Replying(trial::Call::Compact), b"compact");
+    replay(Call::Replying(trial::Call::Merge), b"merge");
+    replay(Call::Replying(trial::Call::Rewrite), b"rewrite");
     replay(Call::Levels, b"levels");
 }

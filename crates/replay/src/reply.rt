@@ -1,12 +1,11 @@
 // The calls that write a reply, on a ticket of the list.
 use crate::entry;
-use crate::files;
-use crate::files::Files;
-use crate::files::Next;
 use crate::step;
 use crate::step::Step;
+use oracle_list::Files;
+use oracle_list::Next;
+use outcome::Expected;
 use trial::Call;
-use trial::Expected;
 use trial::Lent;
 
 pub fn judge(
@@ -67,7 +66,7 @@ fn judge_given(
 // Levels for the next assignment.
 fn judge_next(files: Files, ticket: &[u8], space: &mut [u32], lent: Lent, seed: u32) -> Step {
     let mut levels = [0; 1024];
-    let Next::Read(n) = files::next_levels(files.stimuli, &mut levels) else {
+    let Next::Read(n) = oracle_list::next_levels(files.stimuli, &mut levels) else {
         return Step::Torn;
     };
     judge_given(files.expected, ticket, &levels, n, space, lent, seed)

@@ -1,4 +1,4 @@
-use trial::Outcome;
+use outcome::Outcome;
 
 // What comes of a ticket of the list.
 pub enum Step {

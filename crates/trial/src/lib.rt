@@ -1,41 +1,11 @@
 // A call tried on given slices: what it answers and leaves, held to what it must.
-mod digest;
-mod litter;
 mod reply;
-mod tally;
 
-pub use digest::Sums;
+use outcome::Figures;
+use outcome::Outcome;
 pub use reply::Call;
-pub use reply::Expected;
 pub use reply::Lent;
 pub use reply::replying;
-pub use tally::Tally;
-
-// What a call answers: the number that it returns and its first three answer words. The others are
-// 0.
-pub struct Figures {
-    pub number: u32,
-    pub place: u32,
-    pub count: u32,
-    pub extra: u32,
-}
-
-// The first thing that is not as it must be.
-pub enum Outcome {
-    AsExpected,
-    // There is less space than is to be lent.
-    NoSpace,
-    // The figures answered, and those expected.
-    Answered(Figures, Figures),
-    // An answer word behind the figures is not 0.
-    AnswerRest,
-    // A word of the work slice that is not cleared, or a word behind it that is not kept.
-    Work,
-    // The reply's bytes are not those expected.
-    Reply,
-    // A byte behind the reply that is not kept.
-    ReplyRest,
-}
 
 // The check of a ticket with so many words of space lent as its work slice. The space is longer, so
 // that a store behind the slice shows; seed says which litter it holds at entry.
@@ -55,95 +25,5 @@ pub fn check(
     if !litter::is_left(space, lent, seed) {
         return Outcome::Work;
     }
-    judge(number, answer, expected)
-}
-
-fn judge(number: u32, answer: [u32; 8], expected: Figures) -> Outcome {
-    let answered = Figures {
-        number,
-        place: answer[0],
-        count: answer[1],
-        extra: answer[2],
-    };
-    if !same(answered, expected) {
-        return Outcome::Answered(answered, expected);
-    }
-    if !is_rest_zero(answer) {
-        return Outcome::AnswerRest;
-    }
-    Outcome::AsExpected
-}
-
-// The figures and the reply, the first bytes of a space that was spilled with the same seed.
-fn judge_reply(
-    number: u32,
-    answer: [u32; 8],
-    space: &[u8],
-    seed: u32,
-    expected: Expected,
-) -> Outcome {
-    let n = answer[1] as usize;
-    let outcome = judge(number, answer, expected.figures);
-    let Outcome::AsExpected = outcome else {
-        return outcome;
-    };
-    if space.len() < n {
-        return Outcome::Reply;
-    }
-    if !digest::same_sums(digest::sums_of(&space[..n]), expected.sums) {
-        return Outcome::Reply;
-    }
-    if !litter::is_kept_behind(space, n, seed) {
-        return Outcome::ReplyRest;
-    }
-    Outcome::AsExpected
-}
-
-fn same(x: Figures, y: Figures) -> bool {
-    x.number == y.number && x.place == y.place && x.count == y.count && x.extra == y.extra
-}
-
-fn is_rest_zero(answer: [u32; 8]) -> bool {
-    answer[3] == 0 && answer[4] == 0 && answer[5] == 0 && answer[6] == 0 && answer[7] == 0
-}
-
-// Writes what is not as it must be, to the end of its line.
-pub fn tell(outcome: Outcome) {
-    match outcome {
-        Outcome::AsExpected => {}
-        Outcome::NoSpace => {
-            io::write_all(1, b": too little space\n");
-        }
-        Outcome::Answered(x, expected) => {
-            io::write_all(1, b": answered");
-            tell_figures(x);
-            io::write_all(1, b", expected");
-            tell_figures(expected);
-            io::write_all(1, b"\n");
-        }
-        Outcome::AnswerRest => {
-            io::write_all(1, b": an answer word behind the figures is not 0\n");
-        }
-        Outcome::Work => {
-            io::write_all(1, b": the work slice is not left as it must be\n");
-        }
-        Outcome::Reply => {
-            io::write_all(1, b": the reply differs\n");
-        }
-        Outcome::ReplyRest => {
-            io::write_all(1, b": the bytes behind the reply are not kept\n");
-        }
-    }
-}
-
-fn tell_figures(x: Figures) {
-    tell_figure(x.number);
-    tell_figure(x.place);
-    tell_figure(x.count);
-    tell_figure(x.extra);
-}
-
-fn tell_figure(x: u32) {
-    io::write_all(1, b" ");
-    io::print_decimal(1, x as u64);
+    outcome::judge(number, answer, expected)
 }

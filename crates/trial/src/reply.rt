@@ -1,8 +1,6 @@
 // A call that writes a reply, tried.
-use crate::Figures;
-use crate::Outcome;
-use crate::digest::Sums;
-use crate::litter;
+use outcome::Expected;
+use outcome::Outcome;
 
 pub enum Call {
     Levels,
@@ -15,12 +13,6 @@ pub enum Call {
 pub struct Lent {
     pub words: usize,
     pub bytes: usize,
-}
-
-pub struct Expected {
-    pub figures: Figures,
-    // Of the reply's bytes.
-    pub sums: Sums,
 }
 
 // The number that a call returns. Levels alone looks at the levels given.
@@ -74,5 +66,5 @@ pub fn replying(
     if !litter::is_left(work, words, seed) {
         return Outcome::Work;
     }
-    crate::judge_reply(number, answer, reply, seed, expected)
+    outcome::judge_reply(number, answer, reply, seed, expected)
 }

@@ -1,5 +1,8 @@
 -- `ticket::cabbagetier_merge` meets its contract. Assumes nothing.
+use mathlib.Core.Path.{ap, _∙_}
 use borrow.Author.Needs.{needs}
+use Rattle.calls.specs.declared.Merged.{Merged}
+use Rattle.calls.specs.Answers.{mergedFigures, wordsOf}
 use Rattle.ticket.proofs.cabbagetier_merge.Statement.{statement}
 use Rattle.ticket.proofs.cabbagetier_merge.Tie as tie
 use Rattle.ticket.proofs.cabbagetier_merge.Reads as reads
@@ -25,7 +28,10 @@ same-length-2 c = search needs
 
 -- src/lib.rt
 returns : tie.Need-returns
-returns c = (cc, (search needs, (search needs, cc)))
+returns c =
+    let called = c .before .before .before .before .before .before .merge .ensures in
+    let told = c .tell-merged .ensures in
+    (told .0 ∙ ap (λ (a : Merged). mergedFigures a .number) (called .0), (called .1 .0, (called .1 .1, told .1 ∙ ap (λ (a : Merged). wordsOf (mergedFigures a)) (called .0))))
 
 pub cabbagetier-merge-spec : {M : Type 1} → statement M
 cabbagetier-merge-spec =
