@@ -18,11 +18,12 @@ use Rattle.order.specs.Orders.{bitDeps, topoSort}
 use Rattle.design.specs.Queue.{findNewCell}
 use Rattle.rewrite.specs.Rewriter.{Rewriter, begun}
 use Rattle.rewrite.specs.Rewrite.{Run, ran, stuck, runItems, run, slotsOf}
-use Rattle.order_laws.specs.Ordered.{has, FedAfter, Each}
-use Rattle.order_laws.specs.Members.{All, Drives, Wired}
+use Rattle.basics.specs.Lists.{has, All}
+use Rattle.order_laws.specs.Ordered.{FedAfter, Each}
+use Rattle.order_laws.specs.Members.{Drives, Wired}
 use Rattle.order_laws.proofs.Bits.{topoSort-each, topoSort-fed, sourcesLast, deps-fall}
 use Rattle.order_laws.proofs.Accepted.{passed-ranked, passed-wired}
-use Rattle.order_laws.proofs.Members.{all-imp}
+use Rattle.basics.proofs.Members.{all-imp}
 use Rattle.rewrite_laws.proofs.Running.{RunOk, part-ok, run-ok}
 
 module _ (rs : List Record) (accepted : firstOf (netlistStages rs) ≡ Pass) where

@@ -28,10 +28,10 @@ use Rattle.normalize.specs.Normalize.{normalize}
 use Rattle.aig.specs.Aig.{simpleAigOpt}
 use Rattle.rewrite.specs.Rewriter.{Rewriter, begun, Lookup, stamp, findCell}
 use Rattle.rewrite.specs.Rewrite.{rules, Result, none, cell, value, spent, Added, at, unadded, asValue, asNot, addNot, perform, enter, replacing, goOn, turn, process, processCell, addCell, Run, ran, stuck, bitDone, cellDone, runItem, andThen, runItems, run, slotsOf}
-use Rattle.order_laws.specs.Ordered.{has}
+use Rattle.basics.specs.Lists.{has}
 use Rattle.order_laws.specs.Ends.{Ends}
-use Rattle.order_laws.proofs.Members.{has-append}
-use Rattle.order_laws.proofs.Truth.{or-right}
+use Rattle.basics.proofs.Members.{has-append}
+use Rattle.basics.proofs.Truth.{or-right}
 use Rattle.rewrite_laws.proofs.Settled.{limit}
 use Rattle.rewrite_laws.proofs.Kept.{KeptResult, KeptAdded, KeptPass, enter-kept, pass-kept, process-kept}
 use Rattle.rewrite_laws.proofs.Grows.{Extends, extends-none, extending, runItems-grows, grown-slots}

@@ -15,14 +15,15 @@ use Rattle.value.specs.declared.Driver.the-variants as driven
 use Rattle.value.specs.Value.{eqNet, driver}
 use Rattle.value.proofs.Laws.{net-test, cell-driver}
 use Rattle.cell.specs.declared.Cell.{Cell}
-use Rattle.loops.specs.Counted.{counted}
+use Rattle.loops.specs.inner.Counted.{counted}
 use Rattle.loops.proofs.Counting.{counted-le, counted-less}
 use Rattle.design.specs.Queue.{drivenTo, followed, mapNetNew}
 use Rattle.rewrite.specs.Rewriter.{Rewriter, stamp}
 use Rattle.order_laws.specs.Ends.{Final, Ends}
-use Rattle.order_laws.proofs.Truth.{either, never}
+use Rattle.basics.proofs.Truth.{either, never}
 use Rattle.order_laws.proofs.Queue.{replacement}
-use Rattle.rewrite_laws.proofs.Settled.{StandsFor, Inv, stamp-driven}
+use Rattle.rewrite_laws.specs.State.{StandsFor, Inv}
+use Rattle.rewrite_laws.proofs.Settled.{stamp-driven}
 
 module _ (cs₀ : List Cell) (r : Rewriter) (inv : Inv cs₀ r) where
   abbrev ts : List ℕ

@@ -15,7 +15,7 @@ use Rattle.aig.specs.declared.AndInverter.the-variants as and-inverter
 use Rattle.aig.specs.declared.XorGate.{XorGate}
 use Rattle.aig.specs.declared.XorGate.the-variants as xor-gate
 use Rattle.aig.specs.Aig.{ifNot, ifAig, ifXor}
-use Rattle.aig.specs.Sources.{notIn, aigIn, xorIn}
+use Rattle.aig.specs.inner.Sources.{notIn, aigIn, xorIn}
 
 abbrev inNot : Inverter → (Net → Outcome) → Outcome
 inNot (inverter.Of v) f = f v

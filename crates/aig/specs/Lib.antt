@@ -1,2 +1,2 @@
 pub mod Aig
-pub mod Sources
+pub mod inner

@@ -5,7 +5,7 @@ use crate::XorGate;
 use cell::Cell;
 use design::Source;
 ghost use mathlib.Core.Path.{_≡_};
-ghost use Rattle.aig.specs.Sources.{notIn, aigIn, xorIn};
+ghost use Rattle.aig.specs.inner.Sources.{notIn, aigIn, xorIn};
 
 pub fn not_in(src: Source) -> Inverter
     ensures { λ r. ⌜ r ≡ notIn src ⌝ }

@@ -1,19 +1,18 @@
 -- Every outcome of the rules is that of an arm. A fact about the rules is proved arm by arm. Assumes nothing.
 use mathlib.Core.Path.{_≡_, refl}
-use mathlib.Core.Bool.{true, false, not, _&&_, _||_}
+use mathlib.Core.Bool.{true, false, _&&_, _||_}
 use Rattle.value.specs.declared.Net.{Net}
 use Rattle.value.specs.declared.ControlNet.{ControlNet}
 use Rattle.value.specs.declared.ControlNet.the-variants.{Pos, Neg}
-use Rattle.value.specs.Value.{UNDEF, ZERO, ONE, eqNet, fromNetInvert, net, isPositive, isNegative, isAlways, notControl, eqControl}
+use Rattle.value.specs.Value.{UNDEF, ZERO, ONE, eqNet, net, isPositive, isNegative, isAlways, notControl, eqControl}
 use Rattle.value.proofs.Laws.{net-test, control-test}
 use Rattle.cell.specs.declared.Cell.the-variants.{Not, Xor, Aig}
 use Rattle.design.specs.declared.Source.{Source}
-use Rattle.design.specs.declared.Source.the-variants.{Known}
 use Rattle.normalize.specs.declared.Outcome.{Outcome}
 use Rattle.normalize.specs.declared.Outcome.the-variants.{None, Value, Form, NotOf}
-use Rattle.normalize.specs.Outcomes.{_orElse_, given, fromControl}
-use Rattle.aig.specs.Aig.{differ, notRule, aigOfNot, andAnd, andWith, aigOfAnd, nandAnd, xorOf, nandNand, nandWith, aigOfNand, xorAnd, xorWith, aigOfXor, aigOrder, andXor, xorXor, xorOrder}
-use Rattle.order_laws.proofs.Truth.{and-both, or-either}
+use Rattle.normalize.specs.Outcomes.{given, fromControl}
+use Rattle.aig.specs.Aig.{notRule, aigOfNot, andAnd, andWith, aigOfAnd, nandAnd, xorOf, nandNand, nandWith, aigOfNand, xorAnd, xorWith, aigOfXor, aigOrder, andXor, xorXor, xorOrder}
+use Rattle.basics.proofs.Truth.{and-both, or-either}
 use Rattle.aig_laws.specs.Arms.{NotArm, AigArm, XorArm, not-none, not-zero, not-one, not-undef, not-not, aig-none, aig-same, aig-opposite, aig-zero, aig-one, aig-not, and-same, and-opposite, and-and-same, and-and-opposite, nand-same, nand-opposite, nand-and-same, nand-and-opposite, nand-nand-same, nand-nand-opposite, xor-on, xor-and-on, xor-none, xor-same, xor-undef, xor-zero, xor-one, xor-not, xor-and, xor-nand, xor-xor, xor-both}
 use Rattle.aig_laws.proofs.Strings.{has-orElse, has-given, has-ifNot, has-aig, has-plain-aig, has-xor}
 

@@ -15,14 +15,13 @@ use Rattle.design.specs.declared.Source.{Source}
 use Rattle.design.specs.declared.Source.the-variants.{Known}
 use Rattle.normalize.specs.declared.Outcome.{Outcome}
 use Rattle.normalize.specs.declared.Outcome.the-variants.{Form, NotOf}
-use Rattle.normalize.specs.Outcomes.{_orElse_, fromControl}
+use Rattle.normalize.specs.Outcomes.{fromControl}
 use Rattle.normalize.specs.Normalize.{normalize}
 use Rattle.aig.specs.Aig.{differ, notRule, xorOf, aigRule, xorRule, simpleAigOpt}
-use Rattle.order_laws.specs.Members.{All}
+use Rattle.basics.specs.Lists.{All}
 use Rattle.aig_laws.specs.Reads.{GateOf, SourceNets, GoodOutcome}
-use Rattle.aig_laws.specs.Arms.{HasAig, as-is, turned, HasXor}
+use Rattle.aig_laws.specs.Arms.{HasAig, as-is, turned, HasXor, NotArm, not-none, not-zero, not-one, not-undef, not-not, AigArm, aig-none, aig-same, aig-opposite, aig-zero, aig-one, aig-not, and-same, and-opposite, and-and-same, and-and-opposite, nand-same, nand-opposite, nand-and-same, nand-and-opposite, nand-nand-same, nand-nand-opposite, xor-on, xor-and-on, XorArm, xor-none, xor-same, xor-undef, xor-zero, xor-one, xor-not, xor-and, xor-nand, xor-xor, xor-both}
 use Rattle.aig_laws.proofs.Strings.{has-orElse, has-given}
-use Rattle.aig_laws.specs.Arms.{NotArm, not-none, not-zero, not-one, not-undef, not-not, AigArm, aig-none, aig-same, aig-opposite, aig-zero, aig-one, aig-not, and-same, and-opposite, and-and-same, and-and-opposite, nand-same, nand-opposite, nand-and-same, nand-and-opposite, nand-nand-same, nand-nand-opposite, xor-on, xor-and-on, XorArm, xor-none, xor-same, xor-undef, xor-zero, xor-one, xor-not, xor-and, xor-nand, xor-xor, xor-both}
 use Rattle.aig_laws.proofs.Arms.{notArm, aigArm, xorArm}
 
 -- the operands of a source

@@ -8,7 +8,7 @@ use Rattle.design.specs.declared.Source.{Source}
 use Rattle.design.specs.declared.Source.the-variants.{Opaque, Known}
 use Rattle.normalize.specs.declared.Outcome.{Outcome}
 use Rattle.normalize.specs.declared.Outcome.the-variants.{None, Value, Form, Add, NotOf, AddNotOf}
-use Rattle.order_laws.specs.Members.{All}
+use Rattle.basics.specs.Lists.{All}
 
 -- a gate whose operands pass N
 abbrev pub GateOf : (Net → Type 0) → Cell → Type 0

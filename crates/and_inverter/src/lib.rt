@@ -17,7 +17,7 @@ ghost use Rattle.aig.specs.Aig.{aigOfNot, andWith, aigOfAnd, nandWith, aigOfNan
 fn contradicts(a: ControlNet, b: ControlNet) -> bool
     ensures { λ r. ⌜ r ≡ (eqControl a (notControl b) || isAlways b false) ⌝ }
 {
-    logic::either(aig_arms::opposite(a, b), b.is_always(false))
+    basics::either(aig_arms::opposite(a, b), b.is_always(false))
 }
 
 // and-not: an inverter of v goes into the sign.

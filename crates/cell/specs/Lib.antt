@@ -2,4 +2,3 @@ pub mod Bytes
 pub mod Limits
 pub mod Operands
 pub mod Records
-pub mod Tabulate

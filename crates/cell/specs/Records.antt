@@ -1,10 +1,9 @@
 -- Records as 16 bytes and as cells (paper, "The ticket"; cell.rs, `Cell`). Assumes nothing: these are definitions.
-use mathlib.Core.Bool.{Bool, true, false, cond}
-use mathlib.Core.List.{List, [], _∷_, _++_}
+use mathlib.Core.Bool.{cond}
+use mathlib.Core.List.{List, _∷_, _++_}
 use Prim.Native.Nat.{ℕ, _+_, _*_, _/_, _%_}
 use lib.Dec.{eqb}
 use lib.ListN.{length, getD}
-use Rattle.value.specs.declared.Net.{Net}
 use Rattle.value.specs.declared.ControlNet.{ControlNet}
 use Rattle.value.specs.Value.{ZERO, netAt, fromNetInvert, net, isNegative}
 use Rattle.kinds.specs.declared.Sort.{Sort}
@@ -14,7 +13,7 @@ use Rattle.cell.specs.declared.Record.{Record}
 use Rattle.cell.specs.declared.Cell.{Cell}
 use Rattle.cell.specs.declared.Cell.the-variants.{Input, Output, Buf, Not, And, Or, Xor, Mux, Aig}
 use Rattle.cell.specs.Bytes.{word16, word32, bytes16, bytes32}
-use Rattle.cell.specs.Tabulate.{tabulate}
+use Rattle.basics.specs.Lists.{tabulate}
 
 abbrev pub recordOf : ℕ → ℕ → ℕ → ℕ → ℕ → ℕ → Record
 recordOf kind flags bit a b c = record { kind = kind; flags = flags; bit = bit; a = a; b = b; c = c }

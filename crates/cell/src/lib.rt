@@ -44,38 +44,6 @@ pub enum Cell {
     Aig(ControlNet, ControlNet),
 }
 
-// The byte at an index, and 0 past the end.
-pub fn byte(s: &[u8], i: usize) -> u8
-    ensures { λ r. ⌜ r ≡ getD (now (s .entry)) i 0 ⌝ }
-{
-    if i < s.len() { s[i] } else { 0 }
-}
-
-// Stores a byte; past the end nothing is changed.
-pub fn put_byte(s: &mut [u8], i: usize, v: u8)
-    ensures { λ _. ⌜ now (s .exit) ≡ set (now (s .entry)) i v ⌝ }
-{
-    if i < s.len() {
-        s[i] = v;
-    }
-}
-
-// The word at an index, and 0 past the end.
-pub fn word(s: &[u32], i: usize) -> u32
-    ensures { λ r. ⌜ r ≡ getD (now (s .entry)) i 0 ⌝ }
-{
-    if i < s.len() { s[i] } else { 0 }
-}
-
-// Stores a word; past the end nothing is changed.
-pub fn put(s: &mut [u32], i: usize, v: u32)
-    ensures { λ _. ⌜ now (s .exit) ≡ set (now (s .entry)) i v ⌝ }
-{
-    if i < s.len() {
-        s[i] = v;
-    }
-}
-
 fn wide(b: u8) -> u32
     ensures { λ r. ⌜ r ≡ b ⌝ }
 {
@@ -114,18 +82,18 @@ fn write16(s: &mut [u8], i: usize, v: u16)
     requires { ⌜ i < 1099511627776 ⌝ }
     ensures { λ _. ⌜ now (s .exit) ≡ store16 (now (s .entry)) i v ⌝ }
 {
-    put_byte(s, i, (v % 256) as u8);
-    put_byte(s, i + 1, (v / 256 % 256) as u8);
+    basics::put_byte(s, i, (v % 256) as u8);
+    basics::put_byte(s, i + 1, (v / 256 % 256) as u8);
 }
 
 fn write32(s: &mut [u8], i: usize, v: u32)
     requires { ⌜ i < 1099511627776 ⌝ }
     ensures { λ _. ⌜ now (s .exit) ≡ store32 (now (s .entry)) i v ⌝ }
 {
-    put_byte(s, i, (v % 256) as u8);
-    put_byte(s, i + 1, (v / 256 % 256) as u8);
-    put_byte(s, i + 2, (v / 65536 % 256) as u8);
-    put_byte(s, i + 3, (v / 16777216 % 256) as u8);
+    basics::put_byte(s, i, (v % 256) as u8);
+    basics::put_byte(s, i + 1, (v / 256 % 256) as u8);
+    basics::put_byte(s, i + 2, (v / 65536 % 256) as u8);
+    basics::put_byte(s, i + 3, (v / 16777216 % 256) as u8);
 }
 
 // The same where all bytes lie in the slice.
@@ -196,8 +164,8 @@ fn store_torn(reply: &mut [u8], i: usize, r: Record)
     requires { ⌜ i < 549755813888 ⌝ }
     ensures { λ _. ⌜ now (reply .exit) ≡ sets (now (reply .entry)) i (bytesOf r) ⌝ }
 {
-    put_byte(reply, i, r.kind);
-    put_byte(reply, i + 1, r.flags);
+    basics::put_byte(reply, i, r.kind);
+    basics::put_byte(reply, i + 1, r.flags);
     write16(reply, i + 2, r.bit);
     write32(reply, i + 4, r.a);
     write32(reply, i + 8, r.b);

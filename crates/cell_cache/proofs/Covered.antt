@@ -11,14 +11,15 @@ use Rattle.netlist.specs.Shape.{visit, visitMut, hasEffects}
 use Rattle.netlist.specs.Netlist.{cellIn}
 use Rattle.design.specs.declared.Source.{Source}
 use Rattle.design.specs.declared.Source.the-variants.{Opaque, Known}
-use Rattle.design.specs.declared.Found.{Found}
-use Rattle.design.specs.declared.Found.the-variants.{Nothing, At}
-use Rattle.design.specs.Queue.{Entry, netIn, unchanged, mapNetNew, seek}
+use Rattle.numberer.specs.declared.Found.{Found}
+use Rattle.numberer.specs.declared.Found.the-variants.{Nothing, At}
+use Rattle.numberer.specs.Numberer.{Entry, seek}
+use Rattle.design.specs.Queue.{netIn, unchanged, mapNetNew}
 use Rattle.rewrite.specs.Rewriter.{Rewriter, begun, Lookup, findCell, entered, finished}
 use Rattle.rewrite.specs.Rewrite.{Result, none, cell, value, spent, Added, at, unadded, entry, asked, processCell, addCell, Run, ran, stuck, bitDone, cellDone, runItem}
-use Rattle.order_laws.specs.Members.{All}
-use Rattle.order_laws.proofs.Truth.{either}
-use Rattle.order_laws.proofs.Members.{all-every}
+use Rattle.basics.specs.Lists.{All}
+use Rattle.basics.proofs.Truth.{either}
+use Rattle.basics.proofs.Members.{all-every}
 use Rattle.order_laws.proofs.Queue.{elseFound, seek-append}
 use Rattle.aig_laws.specs.Reads.{GateOf, SourceNets}
 use Rattle.rewrite_laws.proofs.Kept.{Keeps, rules-read, inverse-reads, Left, KeptResult, KeptAdded, KeptPass, processCell-kept, addCell-kept}

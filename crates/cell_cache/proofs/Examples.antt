@@ -1,19 +1,20 @@
 -- The cell cache of a run, computed by the checker: of two equal xors one is added, for the rewriter's cache answers the second. With the ticket's
 -- slots in the cell cache too, it would answer the first, and none would be added: the equation is no matter of course. So it is where a rule
 -- has given the cell another form before. Assumes nothing.
+use Rattle.normalize.specs.Outcomes.{_orElse_}
 use mathlib.Core.Path.{_≡_, refl}
 use mathlib.Core.List.{List, [], _∷_}
 use Rattle.value.specs.Value.{eqNet, leNet, driver}
 use Rattle.cell.specs.declared.Cell.{Cell}
 use Rattle.cell.specs.declared.Cell.the-variants.{Input, Output, Xor}
 use Rattle.cell.specs.Records.{cellRecord}
-use Rattle.cell.specs.Tabulate.{tabulate}
+use Rattle.basics.specs.Lists.{tabulate, those, joined}
 use Rattle.netlist.specs.Shape.{visit, visitMut, hasEffects}
-use Rattle.netlist.specs.Netlist.{those, joined, sources}
+use Rattle.netlist.specs.Netlist.{sources}
 use Rattle.order.specs.Walk.{each, down, walk, walkFrom}
 use Rattle.order.specs.Orders.{bitDeps, topoSort}
-use Rattle.design.specs.Queue.{Entry, netIn, unchanged, followed, mapNetNew, findNewCell, eqRecord, eqCell, seek}
-use Rattle.normalize.specs.Outcomes.{_orElse_}
+use Rattle.numberer.specs.Numberer.{Entry, seek}
+use Rattle.design.specs.Queue.{netIn, unchanged, followed, mapNetNew, findNewCell, eqRecord, eqCell}
 use Rattle.normalize.specs.Normalize.{normalize}
 use Rattle.aig.specs.Aig.{ifNot, ifAig, ifXor, andXor, xorXor, xorOrder, xorRule, simpleAigOpt}
 use Rattle.rewrite.specs.Rewriter.{stamp, findCell, entered, finished, weight}

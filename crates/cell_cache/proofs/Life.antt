@@ -7,12 +7,13 @@ use native.Mathlib.Omega.{arith}
 use lib.ListN.{length, set, length-append, length-set, List·getD-append}
 use lib.Seq.{getD-set-other, getD-append-seam}
 use Rattle.cell.specs.declared.Cell.{Cell}
-use Rattle.cell.specs.Tabulate.{tabulate}
+use Rattle.basics.specs.Lists.{tabulate, those}
 use Rattle.netlist.specs.Shape.{hasEffects}
-use Rattle.netlist.specs.Netlist.{cellIn, those}
+use Rattle.netlist.specs.Netlist.{cellIn}
 use Rattle.netlist.proofs.Frames.{tabulate-same}
-use Rattle.netlist.proofs.Lists.{those-append}
-use Rattle.design.specs.Queue.{Entry, netIn}
+use Rattle.basics.proofs.Those.{those-append}
+use Rattle.numberer.specs.Numberer.{Entry}
+use Rattle.design.specs.Queue.{netIn}
 use Rattle.cell_cache.specs.CellCache.{inserted, addedAt, withoutEffects, cellCache}
 
 pub cache-begins : (cs : List Cell) → cellCache (length cs) cs ≡ []

@@ -17,9 +17,9 @@ use Rattle.normalize.specs.declared.Outcome.{Outcome}
 use Rattle.normalize.specs.declared.Outcome.the-variants.{None, Value, Form, Add, NotOf, AddNotOf}
 use Rattle.rewrite.specs.Rewriter.{Rewriter, begun, Lookup, entered}
 use Rattle.rewrite.specs.Rewrite.{rules, Result, none, cell, value, spent, Added, at, unadded, asValue, asNot, addNot, perform, entry, enter, replacing, goOn, turn, process, processCell, addCell, Run, ran, stuck, bitDone, cellDone, runItem, andThen, runItems, run, compacted, rewrite}
-use Rattle.order_laws.specs.Ordered.{has}
-use Rattle.order_laws.proofs.Truth.{either}
-use Rattle.order_laws.proofs.Members.{has-first, has-later}
+use Rattle.basics.specs.Lists.{has}
+use Rattle.basics.proofs.Truth.{either}
+use Rattle.basics.proofs.Members.{has-first, has-later}
 use Rattle.order_laws.proofs.Bits.{topoSort-each}
 use Rattle.order_laws.proofs.Sorts.{splittable-gate}
 use Rattle.aig_laws.specs.Reads.{GoodOutcome}

@@ -6,12 +6,13 @@ use Prim.Native.Nat.{ℕ, suc, _+_, _-_}
 use lib.ListN.{length}
 use Rattle.value.specs.declared.Net.{Net}
 use Rattle.cell.specs.declared.Cell.{Cell}
-use Rattle.cell.specs.Tabulate.{tabulate}
+use Rattle.basics.specs.Lists.{tabulate, those}
 use Rattle.netlist.specs.Shape.{hasEffects}
-use Rattle.netlist.specs.Netlist.{cellIn, those}
-use Rattle.design.specs.declared.Found.{Found}
-use Rattle.design.specs.declared.Found.the-variants.{Nothing, At}
-use Rattle.design.specs.Queue.{Entry, netIn, addCell, seek}
+use Rattle.netlist.specs.Netlist.{cellIn}
+use Rattle.numberer.specs.declared.Found.{Found}
+use Rattle.numberer.specs.declared.Found.the-variants.{Nothing, At}
+use Rattle.numberer.specs.Numberer.{Entry, seek}
+use Rattle.design.specs.Queue.{netIn, addCell}
 use Rattle.rewrite.specs.Rewriter.{Rewriter}
 use Rattle.rewrite.specs.Rewrite.{Added, at}
 

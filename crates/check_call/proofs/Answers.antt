@@ -11,7 +11,7 @@ use Rattle.checking.specs.Checking.{gateCount}
 use Rattle.calls.specs.declared.Checked.{Checked}
 use Rattle.calls.specs.declared.Checked.the-variants.{Accepted, Refused}
 use Rattle.calls.specs.Calls.{checkVerdict, checkAnswer}
-use Rattle.delivery.specs.Delivery.{Begins}
+use Rattle.delivery.specs.inner.Delivery.{Begins}
 
 module _ (t ws ws′ : List ℕ) (v : Verdict) (b : Begins t ws ws′ v) where
   pub checked-refused : (x : Refusal) → v ≡ verdict.Refused x → Refused x ≡ checkAnswer (length ws) t

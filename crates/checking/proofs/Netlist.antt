@@ -13,7 +13,6 @@ use Rattle.value.specs.declared.Driver.{Driver}
 use Rattle.value.specs.declared.Driver.the-variants as driven
 use Rattle.value.specs.Value.{netAt, driver}
 use Rattle.cell.specs.declared.Record.{Record}
-use Rattle.cell.specs.declared.Edge.{Edge}
 use Rattle.cell.specs.declared.Edge.the-variants.{To, Nowhere}
 use Rattle.cell.specs.Operands.{fieldOf, isOperand, isCombEdge, edgeOf, edgeAt}
 use Rattle.cell.specs.Records.{recordsOf, recordIn}
@@ -21,7 +20,7 @@ use Rattle.cell.proofs.Lists.{records-length}
 use Rattle.loops.specs.declared.Found.{Found}
 use Rattle.loops.specs.declared.Found.the-variants.{At, Nothing}
 use Rattle.loops.specs.Reach.{onLoop}
-use Rattle.loops.specs.Search.{Searchable, Finds}
+use Rattle.loops.specs.inner.Search.{Searchable, Finds}
 use Rattle.loops.proofs.Edges.{edge-field, edge-below}
 use Rattle.loops.proofs.Lowest.{IsLowest, lowest-on-loop}
 use Rattle.checking.specs.declared.Refusal.{Refusal}

@@ -2,11 +2,11 @@
 use mathlib.Core.Path.{_≡_, refl, sym, ap, ap₂, _∙_, subst}
 use mathlib.Core.Bool.{Bool, true, false, not, _||_}
 use mathlib.Core.List.{List, [], _∷_, _++_}
-use Prim.Native.Nat.{ℕ, zero, suc, _+_, _-_, _/_, _<_, _≤_}
+use Prim.Native.Nat.{ℕ, _+_, _-_, _/_, _<_, _≤_}
 use native.Mathlib.Omega.{arith}
 use native.Mathlib.Numerals.{add-one}
-use lib.Dec.{eqb, ltb}
-use lib.ListN.{length, getD}
+use lib.Dec.{eqb}
+use lib.ListN.{length}
 use borrow.Author.Tests.{lt-ltb, le-ltb, ne-eqb}
 use Rattle.value.specs.declared.Slot.{Slot}
 use Rattle.value.specs.declared.Driver.{Driver}
@@ -16,7 +16,7 @@ use Rattle.kinds.specs.declared.Kind.{Kind}
 use Rattle.value.specs.Value.{netAt, driver}
 use Rattle.kinds.specs.Kinds.{kindOf}
 use Rattle.cell.specs.Operands.{fieldOf, isOperand}
-use Rattle.cell.specs.Tabulate.{tabulate}
+use Rattle.basics.specs.Lists.{tabulate}
 use Rattle.cell.specs.Records.{recordAt, recordsOf, recordIn}
 use Rattle.kinds.proofs.Laws.{gates-one}
 use Rattle.cell.proofs.Lists.{records-length, records-at}

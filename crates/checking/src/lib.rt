@@ -89,11 +89,11 @@ fn reserved_field(r: Record) -> bool
     let a = k.a;
     let b = k.b;
     let c = k.c;
-    logic::either(
+    basics::either(
         unused_not_zero(a, r.a),
-        logic::either(
+        basics::either(
             unused_not_zero(b, r.b),
-            logic::either(unused_not_zero(c, r.c), k.flags < r.flags),
+            basics::either(unused_not_zero(c, r.c), k.flags < r.flags),
         ),
     )
 }
@@ -104,9 +104,9 @@ fn follows(p: Record, r: Record) -> bool
 {
     let next = (p.bit as u32) + 1;
     let common = kinds::kind_of(r.kind).common_a;
-    logic::both(
-        logic::both(p.kind == r.kind, next == (r.bit as u32)),
-        logic::either(!common, p.a == r.a),
+    basics::both(
+        basics::both(p.kind == r.kind, next == (r.bit as u32)),
+        basics::either(!common, p.a == r.a),
     )
 }
 
@@ -117,7 +117,7 @@ fn out_of_sequence(s: Slot, p: Record, r: Record) -> bool
         return false;
     }
     let one_bit = kinds::kind_of(r.kind).one_bit;
-    logic::either(one_bit, logic::either(s.0 == 0, !follows(p, r)))
+    basics::either(one_bit, basics::either(s.0 == 0, !follows(p, r)))
 }
 
 // A net is no constant and either names no slot of the ticket or names an output's.

@@ -14,28 +14,26 @@ use Rattle.value.specs.declared.Net.{Net}
 use Rattle.value.specs.declared.Slot.{Slot}
 use Rattle.value.specs.declared.Driver.{Driver}
 use Rattle.value.specs.declared.Driver.the-variants as driven
-use Rattle.value.specs.Value.{netAt, netOf, driver}
+use Rattle.value.specs.Value.{netAt, driver}
 use Rattle.cell.specs.declared.Record.{Record}
 use Rattle.cell.specs.declared.Cell.{Cell}
 use Rattle.cell.specs.declared.Cell.the-variants.{Input}
-use Rattle.cell.specs.Tabulate.{tabulate}
+use Rattle.basics.specs.Lists.{tabulate, slots, those, joined}
 use Rattle.cell.specs.Records.{cellOf, cellRecord, bytesOf}
 use Rattle.cell.proofs.Laws.{sets-append}
-use Rattle.cell.proofs.Lists.{tabulate-at}
-use Rattle.netlist.specs.Areas.{wordRecord, recordsIn, marksIn, visitedAt, orderAt}
+use Rattle.basics.proofs.Tables.{tabulate-at, map-append, map-at, tabulate-map}
+use Rattle.netlist.specs.inner.Areas.{wordRecord, recordsIn, marksIn, visitedAt, orderAt}
 use Rattle.netlist.specs.Shape.{visitMut}
-use Rattle.netlist.specs.Netlist.{Netlist, slots, those, startOf, cellIn, joined, encode, ticketOf}
-use Rattle.order.specs.Descent.{bitsIn}
-use Rattle.netlist.proofs.Lists.{those-append}
+use Rattle.netlist.specs.Netlist.{startOf, cellIn, encode, ticketOf}
+use Rattle.order.specs.inner.Descent.{bitsIn}
+use Rattle.basics.proofs.Those.{those-append, map-slots-same}
 use Rattle.order.proofs.Words.{marks-length}
-use Rattle.design.specs.Queue.{netIn}
 use Rattle.compact.specs.Compact.{keep, isKept, keptSlots, countKept, netMap, compact}
-use Rattle.design.specs.Words.{netlistIn}
-use Rattle.compact.specs.Words.{renumberedIn, Noted, Numbered, keptAt, keptIn, renumberedRecord, keptBytes}
-use Rattle.netlist.specs.Fields.{renamedFields, renamedRecord}
+use Rattle.design.specs.inner.Words.{netlistIn}
+use Rattle.compact.specs.inner.Words.{renumberedIn, Noted, Numbered, keptAt, keptIn, renumberedRecord, keptBytes}
+use Rattle.netlist.specs.inner.Fields.{renamedFields, renamedRecord}
 use Rattle.netlist.proofs.Operands.{renamed-plain}
-use Rattle.design.proofs.Lists.{map-append, map-at}
-use Rattle.compact.proofs.Lists.{tabulate-map, map-those, ticket-append, ticket-length}
+use Rattle.compact.proofs.Lists.{ticket-append, ticket-length}
 use Rattle.design.proofs.Words.{bits-length, cells-length, bit-at, cell-at}
 
 mark-at : (n : ℕ) (ws : List ℕ) (s : ℕ) → s < n → (base : ℕ) → getD (marksIn base n ws) s false ≡ not (eqb (getD ws (base + s) 0) 0)
@@ -258,7 +256,7 @@ module _ (n : ℕ) (ws : List ℕ) (kept : marksIn visitedAt n ws ≡ keep (netl
   pub compact-records : encode (compact (netlistIn n ws)) ≡ keptRecords n ws n
   unfolding keptSlots renamedRecord
   compact-records =
-      by-marks ∙ map-those _ _ (renumberedRecord n ws) n
+      by-marks ∙ map-slots-same _ _ (renumberedRecord n ws) n
       (λ s l. ap₂ (λ (b : ℕ) (c : Cell). cellRecord b (visitMut (netMap (netlistIn n ws .bits) (marksIn visitedAt n ws)) c)) (bit-at n ws s l) (cell-at n ws s l))
 
   pub compact-length : length (ticketOf (encode (compact (netlistIn n ws)))) ≡ keptIn n ws n * 16

@@ -1,29 +1,27 @@
 -- The marks of the cells that are kept. Assumes nothing.
-use mathlib.Core.Path.{_≡_, refl, sym, ap, ap₂, _∙_, subst}
-use mathlib.Core.Bool.{Bool, true, false, cond, _&&_}
+use mathlib.Core.Path.{_≡_, sym, ap, ap₂, _∙_, subst}
+use mathlib.Core.Bool.{Bool, true, false, _&&_}
 use mathlib.Core.Logic.{inl}
 use mathlib.Core.List.{List, [], _∷_, _++_}
-use Prim.Native.Nat.{ℕ, zero, suc, _+_, _*_, _<_, _≤_}
+use Prim.Native.Nat.{ℕ, _+_, _<_, _≤_}
 use native.Mathlib.Omega.{arith}
 use native.Mathlib.Numerals.{add-one}
 use lib.Dec.{eqb}
 use lib.ListN.{length, getD}
 use Rattle.cell.specs.declared.Record.{Record}
 use Rattle.cell.specs.declared.Cell.{Cell}
-use Rattle.cell.specs.Tabulate.{tabulate}
-use Rattle.cell.specs.Records.{cellOf}
+use Rattle.basics.specs.Lists.{tabulate, slots, those}
 use Rattle.netlist.specs.Shape.{hasEffects}
-use Rattle.netlist.specs.Areas.{wordRecord, recordsIn, marksIn, Within, visitedAt, replacedAt}
-use Rattle.netlist.specs.Netlist.{Netlist, netlistOf, cellIn, slots, those, iterCells, cellDeps}
+use Rattle.netlist.specs.inner.Areas.{recordsIn, Within, visitedAt, replacedAt}
+use Rattle.netlist.specs.Netlist.{Netlist, netlistOf, cellIn, iterCells, cellDeps}
 use Rattle.netlist.proofs.Frames.{record-kept, records-kept}
 use Rattle.order.specs.Walk.{Walk, walkFrom, fresh}
-use Rattle.order.specs.Code.{walkOf, cellsBy, Ready, Walks, Clears}
+use Rattle.order.specs.inner.Code.{walkOf, cellsBy, Ready, Walks, Clears}
 use Rattle.order.proofs.Walking.{walks-none, walks-ready, walks-then, cleared-ready, cleared-records, cleared-then, cleared-walked}
-use Rattle.netlist.proofs.Lists.{those-append}
+use Rattle.basics.proofs.Those.{those-append, those-both, slots-same}
 use Rattle.compact.specs.Compact.{keep}
-use Rattle.design.specs.Words.{netlistIn}
-use Rattle.compact.specs.Words.{isRoot, rootAt, Marked}
-use Rattle.compact.proofs.Lists.{those-those, those-same}
+use Rattle.design.specs.inner.Words.{netlistIn}
+use Rattle.compact.specs.inner.Words.{isRoot, rootAt, Marked}
 use Rattle.design.proofs.Words.{cells-length, bits-length, bit-at, cell-at}
 
 -- the roots of the definition
@@ -32,9 +30,9 @@ roots-are : (n : ℕ) (ws : List ℕ)
 unfolding iterCells isRoot
 roots-are n ws =
     let d : Netlist = netlistIn n ws in
-    those-those (λ s. hasEffects (cellIn (d .cells) s)) (λ s. eqb (getD (d .bits) s 0) 0) (slots (length (d .bits)))
+    those-both (λ s. hasEffects (cellIn (d .cells) s)) (λ s. eqb (getD (d .bits) s 0) 0) (slots (length (d .bits)))
     ∙ ap (λ (k : ℕ). those (λ s. eqb (getD (d .bits) s 0) 0 && hasEffects (cellIn (d .cells) s)) (slots k)) (bits-length n ws)
-    ∙ those-same _ (isRoot ws) n
+    ∙ slots-same _ (isRoot ws) n
     (λ s l. ap₂ (λ (b : ℕ) (c : Cell). eqb b 0 && hasEffects c) (bit-at n ws s l) (cell-at n ws s l))
 
 keep-is : (n : ℕ) (ws : List ℕ) → keep (netlistIn n ws) ≡ walkFrom n (cellsBy (recordsIn n ws)) (those (isRoot ws) (slots n)) (fresh n) .visited

@@ -1,20 +1,19 @@
 -- The notes of the slots that are kept. Assumes nothing.
-use mathlib.Core.Path.{_≡_, refl, sym, ap, ap₂, _∙_, subst}
+use mathlib.Core.Path.{_≡_, sym, ap, ap₂, _∙_, subst}
 use mathlib.Core.Bool.{Bool, cond}
 use mathlib.Core.List.{List}
 use mathlib.Core.Logic.{inl}
-use Prim.Native.Nat.{ℕ, _+_, _*_, _<_, _≤_}
+use Prim.Native.Nat.{ℕ, _+_, _<_, _≤_}
 use native.Mathlib.Omega.{arith}
 use native.Mathlib.Decide.{decLt}
 use lib.ListN.{length, getD, set}
 use lib.Seq.{getD-set-same, getD-set-other}
 use Rattle.cell.specs.declared.Record.{Record}
-use Rattle.netlist.specs.Areas.{recordsIn, marksIn, Within, visitedAt, orderAt, replacedAt}
+use Rattle.netlist.specs.inner.Areas.{recordsIn, marksIn, Within, visitedAt, orderAt, replacedAt}
 use Rattle.netlist.specs.Netlist.{netlistOf}
 use Rattle.netlist.proofs.Frames.{within-none, within-then, within-wider, within-set, records-kept, marks-kept}
 use Rattle.compact.specs.Compact.{keep, isKept}
-use Rattle.design.specs.Words.{netlistIn}
-use Rattle.compact.specs.Words.{keptAt, Marked, Noted, Notes, Keeps}
+use Rattle.compact.specs.inner.Words.{keptAt, Marked, Notes, Keeps}
 
 -- notes change neither records nor marks
 module _ (n : ℕ) (few : n ≤ 1024) (ws ws′ : List ℕ) (frame : Within orderAt replacedAt ws ws′) where

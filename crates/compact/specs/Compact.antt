@@ -1,6 +1,6 @@
 -- Compacting (netlist/src/design.rs, `Design::compact` after `apply`). Assumes nothing: these are definitions.
-use mathlib.Core.Bool.{Bool, true, false, _&&_}
-use mathlib.Core.List.{List, [], _∷_, map}
+use mathlib.Core.Bool.{Bool, false}
+use mathlib.Core.List.{List, map}
 use Prim.Native.Nat.{ℕ}
 use lib.ListN.{length, getD}
 use Rattle.value.specs.declared.Net.{Net}
@@ -9,7 +9,8 @@ use Rattle.value.specs.declared.Driver.the-variants as driven
 use Rattle.value.specs.Value.{driver}
 use Rattle.cell.specs.declared.Cell.{Cell}
 use Rattle.netlist.specs.Shape.{visitMut, hasEffects}
-use Rattle.netlist.specs.Netlist.{Netlist, cellIn, slots, those, startOf, iterCells, cellDeps}
+use Rattle.netlist.specs.Netlist.{Netlist, cellIn, startOf, iterCells, cellDeps}
+use Rattle.basics.specs.Lists.{slots, those}
 use Rattle.order.specs.Walk.{walkFrom, fresh}
 use Rattle.design.specs.Queue.{netIn}
 

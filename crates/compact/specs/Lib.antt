@@ -1,2 +1,2 @@
 pub mod Compact
-pub mod Words
+pub mod inner

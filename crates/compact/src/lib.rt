@@ -10,20 +10,20 @@ ghost use mathlib.Core.Bool.{cond};
 ghost use Prim.Native.Nat.{_+_, _*_, _≤_, _<_};
 ghost use lib.ListN.{length};
 ghost use lib.Seq.{sets};
-ghost use Rattle.order.specs.Code.{Ready, Walks, cellsBy};
-ghost use Rattle.netlist.specs.Areas.{marksIn, visitedAt};
+ghost use Rattle.order.specs.inner.Code.{Ready, Walks, cellsBy};
+ghost use Rattle.netlist.specs.inner.Areas.{marksIn, visitedAt};
 ghost use Rattle.netlist.specs.Netlist.{encode, ticketOf};
-ghost use Rattle.netlist.specs.Fields.{renamedFields};
-ghost use Rattle.design.specs.Words.{netlistIn};
+ghost use Rattle.netlist.specs.inner.Fields.{renamedFields};
+ghost use Rattle.design.specs.inner.Words.{netlistIn};
 ghost use Rattle.compact.specs.Compact.{keep, compact};
-ghost use Rattle.compact.specs.Words.{renumberedIn, isRoot, rootAt, Marked, Noted, Numbered, Notes, Keeps, keptAt, keptIn, keptBytes};
+ghost use Rattle.compact.specs.inner.Words.{renumberedIn, isRoot, rootAt, Marked, Noted, Numbered, Notes, Keeps, keptAt, keptIn, keptBytes};
 
 // Whether an input or an output starts in a slot.
 fn is_root(work: &[u32], s: Slot) -> bool
     ensures { λ r. ⌜ r ≡ isRoot (now (work .entry)) (s .0) ⌝ }
 {
     let r = netlist::record_in(work, s);
-    logic::both(r.bit == 0, netlist::has_effects(cell::cell_of(r)))
+    basics::both(r.bit == 0, netlist::has_effects(cell::cell_of(r)))
 }
 
 // Marks what is reached from a slot, if it is a root.
@@ -58,7 +58,7 @@ fn is_kept(work: &[u32], n: u32, s: Slot) -> bool
     ensures { λ r. ⌜ r ≡ keptAt n (now (work .entry)) (s .0) ⌝ }
 {
     let start = order::start_of(work, n, s);
-    cell::word(work, area::VISITED + (start as usize)) != 0
+    basics::word(work, area::VISITED + (start as usize)) != 0
 }
 
 // Notes of each slot whether it is kept, a word each, so that counting is a plain sum.
@@ -69,8 +69,8 @@ fn note_kept(work: &mut [u32], n: u32)
 {
     let mut s: u32 = 0;
     while s < n {
-        let kept = logic::pick32(is_kept(work, n, Slot(s)), 1, 0);
-        cell::put(work, area::ORDER + (s as usize), kept);
+        let kept = basics::pick32(is_kept(work, n, Slot(s)), 1, 0);
+        basics::put(work, area::ORDER + (s as usize), kept);
         s += 1;
     }
 }
@@ -110,8 +110,8 @@ fn count_from(work: &[u32], n: u32, m: u32, from: u32, base: u32) -> u32
     ensures { λ r. ⌜ r ≤ n ⌝ }
 {
     let on = from <= m;
-    let low = logic::pick32(on, from, m);
-    let high = logic::pick32(on, m, from);
+    let low = basics::pick32(on, from, m);
+    let high = basics::pick32(on, m, from);
     let count = count_between(work, n, low, high);
     if on { base + count } else { base - count }
 }
@@ -122,10 +122,10 @@ fn count_kept(work: &[u32], n: u32, x: Slot, s: Slot, at: u32) -> u32
     ensures { λ r. ⌜ r ≡ keptIn n (now (work .entry)) (x .0) ⌝ }
     ensures { λ r. ⌜ r ≤ n ⌝ }
 {
-    let m = logic::pick32(x.0 <= n, x.0, n);
+    let m = basics::pick32(x.0 <= n, x.0, n);
     let near = s.0 <= 2 * m;
-    let from = logic::pick32(near, s.0, 0);
-    count_from(work, n, m, from, logic::pick32(near, at, 0))
+    let from = basics::pick32(near, s.0, 0);
+    count_from(work, n, m, from, basics::pick32(near, at, 0))
 }
 
 // A net that the record of slot s reads, under its new number; that of slot s is `at`.
@@ -154,7 +154,7 @@ fn is_noted(work: &[u32], n: u32, s: Slot) -> bool
     requires { ⌜ s .0 < n ⌝ }
     ensures { λ r. ⌜ r ≡ keptAt n (now (work .entry)) (s .0) ⌝ }
 {
-    cell::word(work, area::ORDER + (s.0 as usize)) != 0
+    basics::word(work, area::ORDER + (s.0 as usize)) != 0
 }
 
 // The record of slot s with the new numbers of its operands; its own is `at`.

@@ -4,11 +4,11 @@ use mathlib.Core.List.{List}
 use Prim.Native.Nat.{ℕ}
 use native.Mathlib.Omega.{arith}
 use Rattle.cell.specs.Records.{recordsOf}
-use Rattle.netlist.specs.Areas.{recordsIn, Within, visitedAt}
+use Rattle.netlist.specs.inner.Areas.{recordsIn, Within, visitedAt}
 use Rattle.netlist.proofs.Frames.{within-drop}
 use Rattle.calls.specs.declared.Written.{Written}
 use Rattle.calls.specs.Calls.{compactBytes}
-use Rattle.delivery.specs.Delivery.{Delivers, compactedIn}
+use Rattle.delivery.specs.inner.Delivery.{Delivers, compactedIn}
 use Rattle.delivery.proofs.Delivering.{delivers-from}
 
 pub loaded-delivers : (t : List ℕ) (n : ℕ) (ws₀ ws ws′ reply reply′ : List ℕ) (r : Written)

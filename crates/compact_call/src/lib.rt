@@ -5,7 +5,7 @@ ghost use mathlib.Core.Path.{_≡_};
 ghost use lib.ListN.{length};
 ghost use Rattle.calls.specs.Work.{cleared};
 ghost use Rattle.calls.specs.Calls.{compactBytes, compactAnswer, compactReply};
-ghost use Rattle.delivery.specs.Delivery.{Delivers, Passed};
+ghost use Rattle.delivery.specs.inner.Delivery.{Delivers, Passed};
 
 // 12, or the byte count, for a ticket that passed.
 fn compacted(ticket: &[u8], work: &mut [u32], reply: &mut [u8]) -> Written

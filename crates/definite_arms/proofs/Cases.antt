@@ -2,12 +2,11 @@
 use mathlib.Core.Path.{_≡_, refl}
 use Rattle.value.specs.declared.ControlNet.the-variants.{Pos, Neg}
 use Rattle.value.specs.Value.{eqNet, leNet, isAlways, canonicalize, notControl, eqControl, leControl}
-use Rattle.normalize.specs.Outcomes.{_orElse_, fromControl}
+use Rattle.normalize.specs.Outcomes.{fromControl, _orElse_}
 use Rattle.normalize.specs.Normalize.{normalize}
 use Rattle.aig.specs.Aig.{ifNot, ifAig, ifXor, notRule, aigOfNot, andAnd, andWith, aigOfAnd, nandAnd, xorOf, nandNand, nandWith, aigOfNand, xorAnd, xorWith, aigOfXor, aigOrder, aigRule, andXor, xorXor, xorOrder, xorRule, simpleAigOpt}
-use Rattle.order_laws.specs.Members.{All}
-use Rattle.aig_laws.specs.Arms.{as-is}
-use Rattle.aig_laws.specs.Arms.{not-none, not-zero, not-one, not-undef, not-not, aig-none, aig-same, aig-opposite, aig-zero, aig-one, aig-not, and-same, and-opposite, and-and-same, and-and-opposite, nand-same, nand-opposite, nand-and-same, nand-and-opposite, nand-nand-same, nand-nand-opposite, xor-on, xor-and-on, xor-none, xor-same, xor-undef, xor-zero, xor-one, xor-not, xor-and, xor-nand, xor-xor, xor-both}
+use Rattle.basics.specs.Lists.{All}
+use Rattle.aig_laws.specs.Arms.{as-is, not-none, not-zero, not-one, not-undef, not-not, aig-none, aig-same, aig-opposite, aig-zero, aig-one, aig-not, and-same, and-opposite, and-and-same, and-and-opposite, nand-same, nand-opposite, nand-and-same, nand-and-opposite, nand-nand-same, nand-nand-opposite, xor-on, xor-and-on, xor-none, xor-same, xor-undef, xor-zero, xor-one, xor-not, xor-and, xor-nand, xor-xor, xor-both}
 use Rattle.definite_arms.specs.Arms.{Name, Case, arms, x, y, z}
 use Rattle.definite_arms.specs.Definite.{look}
 use Rattle.definite_arms.specs.Taken.{notName, aigName, xorName, normalizeName, Taken, inverter, and-inverter, and-turned, xor-gate, xor-turned, and-gate, or-gate, input, output, mux, normalized, pass, Ruled, TableRuled}

@@ -13,7 +13,7 @@ use Rattle.value.specs.Value.{net, eqNet}
 use Rattle.value.proofs.Laws.{net-test}
 use Rattle.cell.specs.declared.Cell.{Cell}
 use Rattle.cell.specs.declared.Cell.the-variants.{Input, Output, Buf, Not, And, Or, Xor, Mux, Aig}
-use Rattle.netlist.specs.Netlist.{those, anyOf}
+use Rattle.basics.specs.Lists.{those, anyOf, All}
 use Rattle.design.specs.declared.Source.{Source}
 use Rattle.design.specs.declared.Source.the-variants.{Opaque, Known}
 use Rattle.normalize.specs.declared.Outcome.{Outcome}
@@ -21,8 +21,7 @@ use Rattle.normalize.specs.Normalize.{normalize}
 use Rattle.aig.specs.Aig.{aigOrder, aigRule, xorOrder, xorRule, simpleAigOpt}
 use Rattle.rewrite.specs.Rewriter.{Rewriter, Lookup, findCell}
 use Rattle.rewrite.specs.Rewrite.{rules}
-use Rattle.order_laws.specs.Members.{All}
-use Rattle.order_laws.proofs.Members.{all-every, all-map, all-imp, all-both, all-those, those-pass}
+use Rattle.basics.proofs.Members.{all-every, all-map, all-imp, all-both, all-those, those-pass}
 use Rattle.aig_laws.proofs.Strings.{has-orElse}
 use Rattle.aig_laws.proofs.Arms.{notArm, aigArm, xorArm}
 use Rattle.levels_laws.specs.Algebra.{cellValue}

@@ -3,7 +3,7 @@
 use mathlib.Core.Path.{refl}
 use Rattle.logic.specs.Levels.{eqLevel, refines}
 use Rattle.value.specs.Value.{eqNet, driver}
-use Rattle.netlist.specs.Netlist.{those, anyOf, joined}
+use Rattle.basics.specs.Lists.{those, anyOf, joined}
 use Rattle.levels_laws.specs.Algebra.{netValue, cellValue}
 use Rattle.definite_arms.specs.Arms.{makesDefinite, arms}
 use Rattle.definite_arms.specs.Definite.{assignments, shows, Decided}

@@ -9,7 +9,7 @@ use Rattle.logic.specs.declared.Trit.the-variants.{Zero, One, Undef}
 use Rattle.logic.specs.Levels.{eqLevel, refines}
 use Rattle.value.specs.declared.Net.{Net}
 use Rattle.value.specs.Value.{eqNet}
-use Rattle.netlist.specs.Netlist.{those, anyOf, joined}
+use Rattle.basics.specs.Lists.{those, anyOf, joined}
 use Rattle.design.specs.declared.Source.{Source}
 use Rattle.design.specs.declared.Source.the-variants.{Opaque, Known}
 use Rattle.levels_laws.specs.Algebra.{netValue, cellValue}

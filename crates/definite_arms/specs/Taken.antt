@@ -19,7 +19,7 @@ use Rattle.normalize.specs.declared.Outcome.the-variants.{None, Add, AddNotOf}
 use Rattle.normalize.specs.Outcomes.{_orElse_}
 use Rattle.normalize.specs.Normalize.{normalize}
 use Rattle.aig.specs.Aig.{differ, simpleAigOpt}
-use Rattle.order_laws.specs.Members.{All}
+use Rattle.basics.specs.Lists.{All}
 use Rattle.aig_laws.specs.Arms as tested
 use Rattle.aig_laws.specs.Arms.{NotArm, AigArm, XorArm}
 use Rattle.rewrite_kept.specs.Outcomes.{gateLevel, outcomeLevel, Constants, SourceFits}

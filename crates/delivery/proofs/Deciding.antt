@@ -15,7 +15,7 @@ use Rattle.checking.specs.Checking.{workStage, sizeGroup, netlistStages, checkS
 use Rattle.checking.proofs.Stages.{first-refuses, later-decides, earlier-decides}
 use Rattle.checking.proofs.Groups.{CheckPasses, sizes-exactly, check-exactly, sizes-decide}
 use Rattle.calls.specs.Calls.{replyAfter}
-use Rattle.delivery.specs.Delivery.{Decides, Passed}
+use Rattle.delivery.specs.inner.Delivery.{Decides, Passed}
 
 -- 1
 pub short-refused : (words : ℕ) (t : List ℕ) → words < 16384 → firstOf (checkStages words t) ≡ Refused ShortWork

@@ -10,8 +10,8 @@ use Rattle.cell.specs.declared.Record.{Record}
 use Rattle.netlist.specs.Netlist.{netlistOf}
 use Rattle.netlist.proofs.Frames.{within-drop}
 use Rattle.compact.specs.Compact.{compact}
-use Rattle.design.specs.Words.{netlistIn}
-use Rattle.compact.specs.Words.{keptIn, Keeps}
+use Rattle.design.specs.inner.Words.{netlistIn}
+use Rattle.compact.specs.inner.Words.{keptIn, Keeps}
 use Rattle.compact.proofs.Compacting.{compact-length}
 use Rattle.checking.specs.declared.Refusal.the-variants.{ShortReply}
 use Rattle.checking.specs.declared.Verdict.the-variants as verdict
@@ -20,8 +20,8 @@ use Rattle.checking.proofs.Stages.{first-refuses, first-passes, no-stage}
 use Rattle.calls.specs.declared.Written.{Written}
 use Rattle.calls.specs.declared.Written.the-variants.{Accepted, Refused}
 use Rattle.calls.specs.Calls.{put, room, encoded}
-use Rattle.delivery.specs.Delivery.{Delivers}
-use Rattle.netlist.specs.Areas.{replacedAt, visitedAt}
+use Rattle.delivery.specs.inner.Delivery.{Delivers}
+use Rattle.netlist.specs.inner.Areas.{replacedAt, visitedAt}
 
 -- bytes of which the count is known: 12, or they are written
 module _ (bytes ws₀ ws reply : List ℕ) (count : ℕ) (size : length bytes ≡ count) (kept : drop 16384 ws ≡ drop 16384 ws₀) where

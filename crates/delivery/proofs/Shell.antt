@@ -15,7 +15,7 @@ use Rattle.calls.specs.declared.Written.{Written}
 use Rattle.calls.specs.Work.{cleared}
 use Rattle.calls.specs.Answers.{writtenBy}
 use Rattle.calls.specs.Calls.{replyAfter}
-use Rattle.delivery.specs.Delivery.{Decides, Passed, Begins}
+use Rattle.delivery.specs.inner.Delivery.{Decides, Passed, Begins}
 use Rattle.delivery.proofs.Work.{cleared-by}
 use Rattle.delivery.proofs.Deciding.{short-refused, ticket-passed}
 

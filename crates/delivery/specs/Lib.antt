@@ -1,1 +1,1 @@
-pub mod Delivery
+pub mod inner

@@ -8,7 +8,7 @@ ghost use Prim.Native.Nat.{_≤_};
 ghost use lib.ListN.{length};
 ghost use Rattle.calls.specs.Work.{wiped, cleared};
 ghost use Rattle.calls.specs.Answers.{accepted, refused, writtenFigures, wordsOf};
-ghost use Rattle.delivery.specs.Delivery.{Delivers, Begins, compactedIn};
+ghost use Rattle.delivery.specs.inner.Delivery.{Delivers, Begins, compactedIn};
 
 // The begin of every call, with any work slice: refusals 1 to 8. A slice that is too short is not touched.
 pub fn begin(ticket: &[u8], work: &mut [u32]) -> Verdict

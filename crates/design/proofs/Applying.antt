@@ -2,29 +2,29 @@
 use mathlib.Core.Path.{_≡_, refl, sym, ap, ap₂, _∙_, subst}
 use mathlib.Core.Bool.{Bool, false, not, _||_}
 use mathlib.Core.List.{List, map}
-use Prim.Native.Nat.{ℕ, zero, suc, _+_, _*_, _<_, _≤_}
+use Prim.Native.Nat.{ℕ, _+_, _*_, _<_, _≤_}
 use native.Mathlib.Omega.{arith}
 use native.Mathlib.Numerals.{add-one}
 use native.Mathlib.Decide.{decLt}
 use lib.ListN.{length}
 use Rattle.value.specs.declared.Net.{Net}
 use Rattle.value.specs.declared.ControlNet.the-variants.{Pos, Neg}
-use Rattle.value.specs.Value.{netAt, eqNet, driver}
+use Rattle.value.specs.Value.{eqNet}
 use Rattle.cell.specs.declared.Record.{Record}
 use Rattle.cell.specs.declared.Cell.{Cell}
 use Rattle.cell.specs.declared.Cell.the-variants.{Input, Output, Buf, Not, And, Or, Xor, Mux, Aig}
-use Rattle.cell.specs.Tabulate.{tabulate}
+use Rattle.basics.specs.Lists.{tabulate, slots, anyOf}
 use Rattle.cell.specs.Records.{recordOf, cellOf, cellRecord}
 use Rattle.cell.proofs.RoundTrips.{cell-back}
-use Rattle.netlist.specs.Areas.{wordRecord, storeWords, recordsIn, Within, visitedAt}
+use Rattle.netlist.specs.inner.Areas.{wordRecord, storeWords, recordsIn, Within, visitedAt}
 use Rattle.netlist.specs.Shape.{visit, visitMut}
-use Rattle.netlist.specs.Netlist.{Netlist, netlistOf, slots, anyOf}
+use Rattle.netlist.specs.Netlist.{netlistOf}
 use Rattle.netlist.proofs.Frames.{within-none, within-then, within-wider, tabulate-same}
 use Rattle.netlist.proofs.Areas.{Sized, store-within, stored-same, stored-other}
-use Rattle.design.specs.Queue.{followed, mapNetNew, applied, didChange, eqRecord, eqCell}
-use Rattle.netlist.specs.Fields.{renamedFields, renamedRecord}
-use Rattle.design.specs.Words.{netlistIn, replacedIn, designIn, appliedIn, replacedRecord, changesIn, Applies}
-use Rattle.design.proofs.Lists.{any-more, any-table, map-table}
+use Rattle.design.specs.Queue.{mapNetNew, applied, didChange, eqRecord, eqCell}
+use Rattle.netlist.specs.inner.Fields.{renamedFields, renamedRecord}
+use Rattle.design.specs.inner.Words.{netlistIn, replacedIn, designIn, appliedIn, replacedRecord, changesIn, Applies}
+use Rattle.basics.proofs.Tables.{any-more, any-table, map-table}
 use Rattle.design.proofs.Words.{replaced-kept}
 use Rattle.design.proofs.Replacing.{changed-is}
 use Rattle.netlist.proofs.Operands.{renamed-plain}

@@ -1,10 +1,10 @@
 -- The corner of the Rust's look-up. Assumes nothing.
 use mathlib.Core.Path.{_≡_, refl}
-use mathlib.Core.List.{List, [], _∷_}
+use mathlib.Core.List.{[], _∷_}
 use Rattle.value.specs.declared.ControlNet.the-variants.{Pos}
 use Rattle.value.specs.Value.{netAt, eqNet, driver}
 use Rattle.cell.specs.declared.Cell.the-variants.{Input, Not, Aig}
-use Rattle.cell.specs.Tabulate.{tabulate}
+use Rattle.basics.specs.Lists.{tabulate}
 use Rattle.netlist.specs.Shape.{visitMut}
 use Rattle.design.specs.declared.Source.the-variants.{Known}
 use Rattle.design.specs.Queue.{Design, replaceNet, unchanged, followed, mapNetNew, findNewCell}

@@ -18,14 +18,13 @@ use Rattle.value.specs.declared.ControlNet.the-variants.{Pos, Neg}
 use Rattle.value.specs.Value.{netAt, eqNet, driver}
 use Rattle.cell.specs.declared.Cell.{Cell}
 use Rattle.cell.specs.declared.Cell.the-variants.{Input, Output, Buf, Not, And, Or, Xor, Mux, Aig}
-use Rattle.cell.specs.Tabulate.{tabulate}
+use Rattle.basics.specs.Lists.{tabulate, anyOf}
 use Rattle.cell.specs.Records.{cellRecord}
-use Rattle.netlist.specs.Areas.{Within, figuresAt, replacedAt}
+use Rattle.netlist.specs.inner.Areas.{Within, figuresAt, replacedAt}
 use Rattle.netlist.specs.Shape.{visit, visitMut}
-use Rattle.netlist.specs.Netlist.{anyOf}
 use Rattle.netlist.proofs.Frames.{within-none, within-then, within-set, tabulate-same}
 use Rattle.design.specs.Queue.{netIn, drivenTo, followed, mapNetNew, eqRecord, eqCell}
-use Rattle.design.specs.Words.{replacedIn}
+use Rattle.design.specs.inner.Words.{replacedIn}
 use Rattle.order.proofs.Words.{tabulate-set}
 use Rattle.design.proofs.Words.{replaced-at, replaced-length, replaced-past}
 

@@ -8,13 +8,12 @@ use Rattle.value.specs.declared.Net.{Net}
 use Rattle.value.specs.Value.{netAt}
 use Rattle.cell.specs.declared.Record.{Record}
 use Rattle.cell.specs.Records.{recordOf, cellOf}
-use Rattle.cell.proofs.Lists.{tabulate-length, tabulate-at}
-use Rattle.netlist.specs.Areas.{wordRecord, recordsIn, Within, replacedAt, visitedAt}
+use Rattle.basics.proofs.Tables.{tabulate-length, tabulate-at, map-at}
+use Rattle.netlist.specs.inner.Areas.{wordRecord, recordsIn, Within, replacedAt, visitedAt}
 use Rattle.netlist.specs.Netlist.{cellIn, netlistOf}
 use Rattle.netlist.proofs.Frames.{tabulate-same}
 use Rattle.netlist.proofs.Cells.{cells-length as records-cells-length, cell-at as records-cell-at}
-use Rattle.design.specs.Words.{netlistIn, replacedIn}
-use Rattle.design.proofs.Lists.{map-at}
+use Rattle.design.specs.inner.Words.{netlistIn, replacedIn}
 
 module _ (n : ℕ) (ws : List ℕ) where
   count : length (recordsIn n ws) ≡ n

@@ -1,7 +1,7 @@
 -- The change queue (netlist/src/design.rs, `Design` with its `ChangeQueue`). Assumes nothing: these are definitions.
 use mathlib.Core.Bool.{Bool, cond, not, _&&_}
 use mathlib.Core.List.{List, [], _∷_, _++_, map}
-use Prim.Native.Nat.{ℕ, zero, suc, _+_}
+use Prim.Native.Nat.{ℕ, zero, suc}
 use lib.Dec.{eqb}
 use lib.ListN.{length, getD, set}
 use Rattle.value.specs.declared.Net.{Net}
@@ -11,13 +11,11 @@ use Rattle.value.specs.Value.{slotAt, netOf, eqNet, driver}
 use Rattle.cell.specs.declared.Record.{Record}
 use Rattle.cell.specs.declared.Cell.{Cell}
 use Rattle.cell.specs.Records.{cellRecord}
-use Rattle.cell.specs.Tabulate.{tabulate}
+use Rattle.basics.specs.Lists.{tabulate, anyOf}
 use Rattle.netlist.specs.Shape.{visit, visitMut}
-use Rattle.netlist.specs.Netlist.{cellIn, anyOf}
+use Rattle.netlist.specs.Netlist.{cellIn}
 use Rattle.design.specs.declared.Source.{Source}
 use Rattle.design.specs.declared.Source.the-variants.{Opaque, Known}
-use Rattle.design.specs.declared.Found.{Found}
-use Rattle.design.specs.declared.Found.the-variants.{Nothing, At}
 
 -- `cells`, with `replaced_cells` written into their slots and `added_cells` behind the last slot; and `replaced_nets` by slot, where a net
 -- that is not replaced stands for itself. `unalived_cells` need no mark: nothing names a replaced net after `apply`, and `compact` drops its slot
@@ -76,17 +74,9 @@ applied d = map (visitMut (mapNetNew (d .replaced))) (d .cells)
 unfoldable pub didChange : Design → Bool
 didChange d = anyOf (λ c. anyOf (λ n. not (eqNet (mapNetNew (d .replaced) n) n)) (visit c)) (d .cells)
 
--- `HashMap<Cell, Value>`, of merging and of the rewriter: cells, each with the net that holds it, and the search for one
-abbrev pub Entry : Type 0
-Entry = Cell × Net
-
 -- `PartialEq for Cell`, by the fields of the records
 unfoldable pub eqRecord : Record → Record → Bool
 eqRecord x y = eqb (x .kind) (y .kind) && eqb (x .flags) (y .flags) && eqb (x .a) (y .a) && eqb (x .b) (y .b) && eqb (x .c) (y .c)
 
 unfoldable pub eqCell : Cell → Cell → Bool
 eqCell c d = eqRecord (cellRecord 0 c) (cellRecord 0 d)
-
-unfoldable pub seek : List Entry → Cell → Found
-seek [] c = Nothing
-seek (e ∷ es) c = let rest = seek es c in cond (eqCell (e .0) c) (At (e .1)) rest

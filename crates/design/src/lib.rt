@@ -10,9 +10,3 @@ pub enum Source {
     Opaque,
     Known(Cell),
 }
-
-// What a search for a cell gives: the net that holds it.
-pub enum Found {
-    Nothing,
-    At(Net),
-}

@@ -9,11 +9,11 @@ ghost use mathlib.Core.Path.{_≡_};
 ghost use Prim.Native.Nat.{_≤_, _<_};
 ghost use lib.ListN.{length, set};
 ghost use Rattle.value.specs.Value.{driver};
-ghost use Rattle.cell.specs.Tabulate.{tabulate};
-ghost use Rattle.netlist.specs.Areas.{storeWords, Within, figuresAt, replacedAt, visitedAt};
+ghost use Rattle.basics.specs.Lists.{tabulate};
+ghost use Rattle.netlist.specs.inner.Areas.{storeWords, Within, figuresAt, replacedAt, visitedAt};
 ghost use Rattle.design.specs.Queue.{netIn, drivenTo, mapNetNew, eqRecord, didChange};
-ghost use Rattle.netlist.specs.Fields.{renamedFields};
-ghost use Rattle.design.specs.Words.{netlistIn, replacedIn, designIn, appliedIn, Applies};
+ghost use Rattle.netlist.specs.inner.Fields.{renamedFields};
+ghost use Rattle.design.specs.inner.Words.{netlistIn, replacedIn, designIn, appliedIn, Applies};
 
 // Nothing is replaced yet.
 pub fn unchanged(work: &mut [u32], n: u32)
@@ -24,7 +24,7 @@ pub fn unchanged(work: &mut [u32], n: u32)
 {
     let mut s: u32 = 0;
     while s < n {
-        cell::put(
+        basics::put(
             work,
             area::REPLACED + (s as usize),
             Net::from_cell_index(Slot(s)).0,
@@ -41,7 +41,7 @@ pub fn replace_net(work: &mut [u32], n: u32, s: Slot, x: Net)
     ensures { λ _. ⌜ replacedIn n (now (work .exit)) ≡ set (replacedIn n (now (work .entry))) (s .0) x ⌝ }
     ensures { λ _. ⌜ Within replacedAt figuresAt (now (work .entry)) (now (work .exit)) ⌝ }
 {
-    cell::put(work, area::REPLACED + (s.0 as usize), x.0);
+    basics::put(work, area::REPLACED + (s.0 as usize), x.0);
 }
 
 // What a net is replaced by, in one step.
@@ -52,7 +52,7 @@ fn replaced_by(work: &[u32], n: u32, x: Net) -> Net
         Driver::Const(_) => x,
         Driver::Cell(s) => {
             if s.0 < n {
-                return Net(cell::word(work, area::REPLACED + (s.0 as usize)));
+                return Net(basics::word(work, area::REPLACED + (s.0 as usize)));
             }
             x
         }
@@ -80,9 +80,9 @@ pub fn map_net_new(work: &[u32], n: u32, x: Net) -> Net
 fn record_eq(x: Record, y: Record) -> bool
     ensures { λ r. ⌜ r ≡ eqRecord x y ⌝ }
 {
-    let heads = logic::both(x.kind == y.kind, x.flags == y.flags);
-    let pair = logic::both(heads, x.a == y.a);
-    logic::both(logic::both(pair, x.b == y.b), x.c == y.c)
+    let heads = basics::both(x.kind == y.kind, x.flags == y.flags);
+    let pair = basics::both(heads, x.a == y.a);
+    basics::both(basics::both(pair, x.b == y.b), x.c == y.c)
 }
 
 // A cell's record with the nets that its operands are replaced by.
@@ -130,7 +130,7 @@ pub fn apply(work: &mut [u32], n: u32) -> bool
     let mut s: u32 = 0;
     while s < n {
         let more = apply_to(work, n, Slot(s));
-        changed = logic::either(changed, more);
+        changed = basics::either(changed, more);
         s += 1;
     }
     changed

@@ -11,9 +11,10 @@ use lib.ListN.{length, getD, set, length-set}
 use lib.Seq.{getD-set-same, getD-set-other}
 use borrow.Author.Tests.{eqb-true, eqb-false}
 use Rattle.levels.specs.Fold.{foldIn}
-use Rattle.order_laws.specs.Ordered.{has, OnceAfter, FedAfter}
-use Rattle.order_laws.proofs.Truth.{either, or-none, neither}
-use Rattle.order_laws.proofs.Members.{has-snoc-same}
+use Rattle.basics.specs.Lists.{has}
+use Rattle.order_laws.specs.Ordered.{OnceAfter, FedAfter}
+use Rattle.basics.proofs.Truth.{either, or-none, neither}
+use Rattle.basics.proofs.Members.{has-snoc-same}
 use Rattle.order_laws.proofs.Walks.{once-not}
 
 -- a value is computed from its own so far and from those of the slots that it depends on and of the sources; a source keeps its own

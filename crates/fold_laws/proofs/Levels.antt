@@ -11,18 +11,18 @@ use Rattle.logic.specs.declared.Trit.{Trit}
 use Rattle.logic.specs.declared.Trit.the-variants.{Undef}
 use Rattle.value.specs.declared.Net.{Net}
 use Rattle.cell.specs.declared.Cell.{Cell}
-use Rattle.cell.proofs.Lists.{tabulate-length}
+use Rattle.basics.proofs.Tables.{tabulate-length}
 use Rattle.netlist.specs.Shape.{isSource, combReads}
 use Rattle.netlist.specs.Netlist.{cellIn}
 use Rattle.order.specs.Orders.{bitDeps, topoSort}
 use Rattle.levels.specs.Evaluate.{netLevel, cellLevel, roundOf, levelsIn, levels, givenLevels, outputSlots, outputLevels}
 use Rattle.levels.specs.Fold.{slotLevel, bitLevels, bitOutputs}
 use Rattle.levels.proofs.Given.{given-length}
-use Rattle.order_laws.specs.Ordered.{has}
-use Rattle.order_laws.specs.Members.{All, Drives}
+use Rattle.basics.specs.Lists.{has, All}
+use Rattle.order_laws.specs.Members.{Drives}
 use Rattle.order_laws.proofs.Bits.{topoSort-each, topoSort-fed, reads-deps, sourcesLast}
-use Rattle.order_laws.proofs.Truth.{either}
-use Rattle.order_laws.proofs.Members.{all-imp, all-both}
+use Rattle.basics.proofs.Truth.{either}
+use Rattle.basics.proofs.Members.{all-imp, all-both}
 use Rattle.order_laws.proofs.Operands.{comb-all}
 use Rattle.levels_laws.specs.Algebra.{Ranked}
 use Rattle.levels_laws.specs.Instances.{kleene, LevelsFit}

@@ -20,11 +20,12 @@ use Rattle.checking.specs.Refusals.{firstOf}
 use Rattle.checking.specs.Checking.{unknownKind, unusedNotZero, reservedField, bitOutOfSequence, outOfSequence, netlistStages}
 use Rattle.netlist.specs.Shape.{visit}
 use Rattle.netlist.specs.Netlist.{Netlist, netlistOf, cellIn}
-use Rattle.order_laws.specs.Members.{All, Wired}
-use Rattle.order_laws.proofs.Lists.{getD-mapped}
+use Rattle.basics.specs.Lists.{All}
+use Rattle.order_laws.specs.Members.{Wired}
+use Rattle.basics.proofs.Indices.{getD-mapped}
 use Rattle.order_laws.proofs.Accepted.{passed, passed-ranked, passed-wired}
-use Rattle.order_laws.proofs.Truth.{neither}
-use Rattle.order_laws.proofs.Members.{all-imp}
+use Rattle.basics.proofs.Truth.{neither}
+use Rattle.basics.proofs.Members.{all-imp}
 use Rattle.levels_laws.specs.Algebra.{Ranked}
 use Rattle.kept.proofs.Sound as sound
 use Rattle.kept.proofs.Sound.{Inside, NoOutput, Sound}

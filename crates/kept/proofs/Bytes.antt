@@ -28,12 +28,12 @@ use Rattle.checking.specs.Checking.{netlistStages}
 use Rattle.checking.specs.declared.Verdict.the-variants.{Pass}
 use Rattle.checking.proofs.Groups.{SizesPass, sizes-exactly, check-exactly}
 use Rattle.netlist.specs.Shape.{visit, visitMut, hasEffects}
-use Rattle.netlist.specs.Netlist.{Netlist, netlistOf, cellIn, joined, encode, ticketOf}
+use Rattle.netlist.specs.Netlist.{Netlist, netlistOf, cellIn, encode, ticketOf}
+use Rattle.basics.specs.Lists.{joined, All}
 use Rattle.compact.proofs.Lists.{ticket-length}
 use Rattle.calls.specs.Calls.{encoded, checkVerdict}
-use Rattle.order_laws.specs.Members.{All}
-use Rattle.order_laws.proofs.Members.{all-imp}
-use Rattle.order_laws.proofs.Lists.{getD-mapped}
+use Rattle.basics.proofs.Members.{all-imp}
+use Rattle.basics.proofs.Indices.{getD-mapped}
 use Rattle.order_laws.proofs.Sorts.{record-bit}
 use Rattle.kept.proofs.Sound as sound
 use Rattle.kept.proofs.Sound.{Inside, Sound, bit-small}

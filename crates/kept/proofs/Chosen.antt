@@ -7,10 +7,9 @@ use native.Mathlib.Omega.{arith}
 use native.Mathlib.Decide.{decLt}
 use lib.ListN.{length, getD, length-append, List·getD-append}
 use lib.Seq.{getD-append-seam}
-use Rattle.cell.specs.Tabulate.{tabulate}
-use Rattle.netlist.specs.Netlist.{those, slots}
-use Rattle.netlist.proofs.Lists.{those-append}
-use Rattle.order_laws.proofs.Truth.{either}
+use Rattle.basics.specs.Lists.{tabulate, those, slots}
+use Rattle.basics.proofs.Those.{those-append}
+use Rattle.basics.proofs.Truth.{either}
 
 module _ (p : ℕ → Bool) where
   unfoldable pub chosen : ℕ → List ℕ

@@ -23,11 +23,12 @@ use Rattle.checking.specs.Checking.{outOfSequence}
 use Rattle.netlist.specs.Shape.{visit, combReads, visitMut, isOutput}
 use Rattle.netlist.specs.Netlist.{Netlist, cellIn}
 use Rattle.compact.specs.Compact.{keep, isKept, keptSlots, countKept, renumbered, netMap, compact}
-use Rattle.order_laws.specs.Members.{All, Drives}
-use Rattle.order_laws.proofs.Truth.{either}
-use Rattle.order_laws.proofs.Members.{all-imp, all-both}
+use Rattle.basics.specs.Lists.{All}
+use Rattle.order_laws.specs.Members.{Drives}
+use Rattle.basics.proofs.Truth.{either}
+use Rattle.basics.proofs.Members.{all-imp, all-both}
 use Rattle.order_laws.proofs.Operands.{comb-all, drives-at, drives-none, visited-all, visited-comb}
-use Rattle.order_laws.proofs.Lists.{getD-mapped}
+use Rattle.basics.proofs.Indices.{getD-mapped}
 use Rattle.order_laws.proofs.Sorts.{record-bit, output-mapped}
 use Rattle.levels_laws.specs.Algebra.{Algebra, netValue, cellValue, Fits, Before, Ranked}
 use Rattle.levels_laws.proofs.Operands.{value-const, value-slot, cell-same, cell-visitMut}

@@ -19,23 +19,23 @@ use Rattle.value.specs.Value.{slotAt, driver}
 use Rattle.value.proofs.Laws.{driver-cell, cell-driver}
 use Rattle.cell.specs.declared.Cell.{Cell}
 use Rattle.cell.specs.Records.{recordsOf}
-use Rattle.cell.specs.Tabulate.{tabulate}
-use Rattle.cell.proofs.Lists.{tabulate-length, tabulate-at}
+use Rattle.basics.specs.Lists.{tabulate, those, has, All}
+use Rattle.basics.proofs.Tables.{tabulate-length, tabulate-at}
 use Rattle.loops.proofs.Rank.{rank as rankOf}
 use Rattle.checking.specs.declared.Verdict.the-variants.{Pass}
 use Rattle.netlist.specs.Shape.{visitMut, hasEffects}
-use Rattle.netlist.specs.Netlist.{Netlist, cellIn, those, run, startOf, outputOf}
+use Rattle.netlist.specs.Netlist.{Netlist, cellIn, run, startOf, outputOf}
 use Rattle.order.specs.Orders.{iterCellsTopo}
-use Rattle.design.specs.declared.Found.{Found}
-use Rattle.design.specs.declared.Found.the-variants.{Nothing, At}
-use Rattle.design.specs.Queue.{Entry, unchanged, netIn, drivenTo, mapNetNew, seek}
+use Rattle.numberer.specs.declared.Found.{Found}
+use Rattle.numberer.specs.declared.Found.the-variants.{Nothing, At}
+use Rattle.numberer.specs.Numberer.{Entry, seek}
+use Rattle.design.specs.Queue.{unchanged, netIn, drivenTo, mapNetNew}
 use Rattle.merge.specs.Merge.{keyOf, Merging, findOrInsert, findOrInsertAll, mergeCell, mergeCells, merging}
 use Rattle.calls.specs.Calls.{decoded, checkVerdict}
-use Rattle.order_laws.specs.Ordered.{has, OnceAfter}
-use Rattle.order_laws.specs.Members.{All}
+use Rattle.order_laws.specs.Ordered.{OnceAfter}
 use Rattle.order_laws.specs.Ends.{Final, Ends}
-use Rattle.order_laws.proofs.Truth.{either, never, or-none, or-either}
-use Rattle.order_laws.proofs.Members.{all-imp, all-both, all-append, all-tabulate, has-all, all-has, has-append, has-snoc-same, has-snoc-old, those-has, those-pass}
+use Rattle.basics.proofs.Truth.{either, never, or-none, or-either}
+use Rattle.basics.proofs.Members.{all-imp, all-both, all-append, all-tabulate, has-all, all-has, has-append, has-snoc-same, has-snoc-old, those-has, those-pass}
 use Rattle.order_laws.proofs.Sorts.{gate-inside}
 use Rattle.order_laws.proofs.Walks.{once-snoc}
 use Rattle.order_laws.proofs.Cells.{once-those}

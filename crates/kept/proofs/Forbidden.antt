@@ -1,5 +1,5 @@
 -- WHAT `Kept` FORBIDS: for each of its clauses a ticket u that would not do in place of t, computed by the checker. Assumes nothing.
-use mathlib.Core.Path.{_≡_, ap}
+use mathlib.Core.Path.{ap, _≡_}
 use mathlib.Core.List.{List, [], _∷_}
 use Prim.Native.Nat.{ℕ}
 use native.Mathlib.Omega.{arith}
@@ -11,14 +11,13 @@ use Rattle.cell.specs.Bytes.{word16, word32, bytes16, bytes32}
 use Rattle.kinds.specs.Kinds.{kindOf, useOf, sortOf}
 use Rattle.cell.specs.Operands.{fieldOf, isOperand, isCombEdge, edgeAt}
 use Rattle.cell.specs.Records.{recordOf, recordAt, recordsOf, bytesOf, cellOf}
-use Rattle.cell.specs.Tabulate.{tabulate}
+use Rattle.basics.specs.Lists.{tabulate, those, anyOf, joined}
 use Rattle.loops.specs.Reach.{stepBack, reachingIn, reaches, onLoop}
 use Rattle.checking.specs.declared.Verdict.{Verdict}
 use Rattle.checking.specs.declared.Verdict.the-variants.{Pass, Refused}
 use Rattle.checking.specs.Refusals.{figures, firstOf, slotBySlot}
 use Rattle.checking.specs.Checking.{unknownKind, reservedField, follows, outOfSequence, bitOutOfSequence, undrivenField, undrivenOperand, kindStages, fieldStages, bitStages, operandStages, recordStages, loopStages, sizeGroup, recordGroup, loopGroup, netlistStages, checkStages}
-use Rattle.netlist.specs.Shape.{isInput, isOutput}
-use Rattle.netlist.specs.Netlist.{netlistOf, ticketOf, those, anyOf, joined}
+use Rattle.netlist.specs.Netlist.{netlistOf, ticketOf}
 use Rattle.levels.specs.Evaluate.{netLevel, cellLevel, roundOf, levelsIn, levels, givenLevels, inputSlots, outputSlots, outputLevels}
 use Rattle.calls.specs.Answers.{writtenFigures}
 use Rattle.calls.specs.Calls.{put, checkVerdict, levelBytes, stimulusStages, levelVerdict, levelAnswer, levelReply}

@@ -9,13 +9,13 @@ use lib.ListN.{length, getD}
 use borrow.Author.Tests.{eq-eqb, eqb-true}
 use Rattle.value.specs.declared.Net.{Net}
 use Rattle.netlist.specs.Shape.{visit, hasEffects}
-use Rattle.netlist.specs.Netlist.{Netlist, cellIn, slots, those, anyOf, joined, sources, startOf, outputOf, iterCells, cellDeps}
+use Rattle.netlist.specs.Netlist.{Netlist, cellIn, sources, startOf, outputOf, iterCells, cellDeps}
+use Rattle.basics.specs.Lists.{slots, those, anyOf, joined, has, All}
 use Rattle.compact.specs.Compact.{keep, isKept}
-use Rattle.order_laws.specs.Ordered.{has}
-use Rattle.order_laws.specs.Members.{All, Drives}
+use Rattle.order_laws.specs.Members.{Drives}
 use Rattle.order_laws.proofs.Closed.{reached-wide, roots-reached, deps-reached, least}
-use Rattle.order_laws.proofs.Members.{has-slots, all-imp, all-both, has-passing, has-any, has-map, has-joined, all-slots, all-those, those-pass}
-use Rattle.order_laws.proofs.Lists.{getD-any}
+use Rattle.basics.proofs.Members.{has-slots, all-imp, all-both, has-passing, has-any, has-map, has-joined, all-slots, all-those, those-pass}
+use Rattle.basics.proofs.Indices.{getD-any}
 use Rattle.order_laws.proofs.Operands.{all-sources, all-deps}
 use Rattle.order_laws.proofs.Sorts.{effects-by}
 use Rattle.kept.proofs.Sound.{Inside, Sound, start-inside, start-zero, start-kind, start-has, same-by}

@@ -15,26 +15,28 @@ use Rattle.value.specs.Value.{slotAt, driver, leNet, leControl}
 use Rattle.value.proofs.Laws.{driver-cell}
 use Rattle.cell.specs.declared.Cell.{Cell}
 use Rattle.cell.specs.declared.Cell.the-variants.{Input, Output, Buf, Not, And, Or, Xor, Mux, Aig}
-use Rattle.cell.proofs.Lists.{tabulate-length, tabulate-at}
+use Rattle.basics.proofs.Tables.{tabulate-length, tabulate-at}
 use Rattle.netlist.specs.Shape.{visit, visitMut, isOutput, hasEffects}
-use Rattle.netlist.specs.Netlist.{Netlist, cellIn, those, outputOf}
+use Rattle.netlist.specs.Netlist.{Netlist, cellIn, outputOf}
+use Rattle.basics.specs.Lists.{those, All}
 use Rattle.order.specs.Orders.{iterCellsTopo}
-use Rattle.design.specs.declared.Found.{Found}
-use Rattle.design.specs.declared.Found.the-variants.{Nothing, At}
-use Rattle.design.specs.Queue.{Entry, unchanged, netIn, drivenTo, mapNetNew, seek}
+use Rattle.numberer.specs.declared.Found.{Found}
+use Rattle.numberer.specs.declared.Found.the-variants.{Nothing, At}
+use Rattle.numberer.specs.Numberer.{Entry, seek}
+use Rattle.design.specs.Queue.{unchanged, netIn, drivenTo, mapNetNew}
 use Rattle.merge.specs.Merge.{keyOf, Merging, findOrInsert, findOrInsertAll, mergeCell, mergeCells, merging}
-use Rattle.order_laws.specs.Members.{All, Wired}
-use Rattle.order_laws.proofs.Truth.{either}
-use Rattle.order_laws.proofs.Members.{all-imp, all-map, all-append, those-pass}
+use Rattle.order_laws.specs.Members.{Wired}
+use Rattle.basics.proofs.Truth.{either}
+use Rattle.basics.proofs.Members.{all-imp, all-map, all-append, those-pass}
 use Rattle.order_laws.proofs.Sorts.{source-mapped, effects-by, gate-inside, gate-other, gate-parts}
 use Rattle.order_laws.proofs.Operands.{comb-all, drives-in}
 use Rattle.order_laws.proofs.Queue.{mapped-keeps, replacement, seek-finds}
-use Rattle.levels_laws.specs.Algebra.{Algebra, netValue, controlValue, cellValue, Fits}
+use Rattle.levels_laws.specs.Algebra.{Algebra, Commutative, netValue, controlValue, cellValue, Fits}
 use Rattle.levels_laws.proofs.Operands.{value-slot, cell-same, cell-visitMut, cell-own}
 use Rattle.kept.proofs.Sound.{Sound, Bit, output-bits, inner, same-by, sound-wired}
 
 -- a key has the value of its cell
-module _ {A : Type 0} (alg : Algebra A) (u : Net → A) (own : A) where
+module _ {A : Type 0} (alg : Algebra A) (comm : Commutative alg) (u : Net → A) (own : A) where
   sorted-value : (b : Bool) (c e : Cell) → cellValue alg u own e ≡ cellValue alg u own c → cellValue alg u own (cond b c e) ≡ cellValue alg u own c
   sorted-value true c e h = refl
   sorted-value false c e h = h
@@ -45,11 +47,11 @@ module _ {A : Type 0} (alg : Algebra A) (u : Net → A) (own : A) where
   key-value (Output a l) = refl
   key-value (Buf a) = refl
   key-value (Not a) = refl
-  key-value (And a b) = sorted-value (leNet a b) (And a b) (And b a) (alg .and-comm (u b) (u a))
-  key-value (Or a b) = sorted-value (leNet a b) (Or a b) (Or b a) (alg .or-comm (u b) (u a))
-  key-value (Xor a b) = sorted-value (leNet a b) (Xor a b) (Xor b a) (alg .xor-comm (u b) (u a))
+  key-value (And a b) = sorted-value (leNet a b) (And a b) (And b a) (comm .and-comm (u b) (u a))
+  key-value (Or a b) = sorted-value (leNet a b) (Or a b) (Or b a) (comm .or-comm (u b) (u a))
+  key-value (Xor a b) = sorted-value (leNet a b) (Xor a b) (Xor b a) (comm .xor-comm (u b) (u a))
   key-value (Mux a b c) = refl
-  key-value (Aig p q) = sorted-value (leControl p q) (Aig p q) (Aig q p) (alg .and-comm (controlValue alg u q) (controlValue alg u p))
+  key-value (Aig p q) = sorted-value (leControl p q) (Aig p q) (Aig q p) (comm .and-comm (controlValue alg u q) (controlValue alg u p))
 
 module _ (d : Netlist) (rank : ℕ → ℕ) (sound : Sound d rank) where
   abbrev total : ℕ
@@ -58,7 +60,7 @@ module _ (d : Netlist) (rank : ℕ → ℕ) (sound : Sound d rank) where
   slot-driven : (s : ℕ) → s < total → isOutput (cellIn (d .cells) s) ≡ false → Wired (d .cells) (netIn s)
   slot-driven s l o = drives-in (λ x. (x < total) × (isOutput (cellIn (d .cells) x) ≡ false)) s (omega (arith, sound .few)) (l, o)
 
-  module _ {A : Type 0} (alg : Algebra A) (own v : ℕ → A) (fits : Fits alg own (d .cells) v) where
+  module _ {A : Type 0} (alg : Algebra A) (comm : Commutative alg) (own v : ℕ → A) (fits : Fits alg own (d .cells) v) where
     -- net m can stand for a net or a slot of value a
     pub record Stands (a : A) (m : Net) : Type 0 where
       pub value : netValue alg v m ≡ a
@@ -169,7 +171,7 @@ module _ (d : Netlist) (rank : ℕ → ℕ) (sound : Sound d rank) where
         record {
           inside = b .inside;
           inner = gate-parts (cellIn (d .cells) i) g .1;
-          value = λ o. key-value alg (netValue alg v) o (visitMut (mapNetNew rs) (cellIn (d .cells) i))
+          value = λ o. key-value alg comm (netValue alg v) o (visitMut (mapNetNew rs) (cellIn (d .cells) i))
               ∙ cell-own alg (netValue alg v) o (own i) (visitMut (mapNetNew rs) (cellIn (d .cells) i)) (source-mapped (mapNetNew rs) (cellIn (d .cells) i) ∙ gate-other (cellIn (d .cells) i) g)
               ∙ mapped-value rs (h .replaces) i (b .inside);
         })

@@ -15,17 +15,18 @@ use Rattle.cell.specs.declared.Cell.the-variants.{Input}
 use Rattle.cell.specs.Records.{cellRecord}
 use Rattle.checking.specs.Checking.{outOfSequence}
 use Rattle.netlist.specs.Shape.{visit, combReads, visitMut, isInput, isOutput}
-use Rattle.netlist.specs.Netlist.{Netlist, cellIn, slots, those}
+use Rattle.netlist.specs.Netlist.{Netlist, cellIn}
+use Rattle.basics.specs.Lists.{slots, those, All}
 use Rattle.design.specs.Queue.{mapNetNew, applied}
 use Rattle.merge.specs.Merge.{merging, mergedNetlist, merge}
 use Rattle.levels.specs.Evaluate.{levels, givenLevels, inputSlots, outputSlots, outputLevels}
-use Rattle.order_laws.specs.Members.{All}
-use Rattle.order_laws.proofs.Members.{all-imp, all-both, all-tabulate, all-those, those-same}
+use Rattle.basics.proofs.Members.{all-imp, all-both, all-tabulate, all-those, those-same}
 use Rattle.order_laws.proofs.Operands.{comb-all, visited-all, visited-comb}
-use Rattle.order_laws.proofs.Lists.{getD-mapped, map-same}
+use Rattle.basics.proofs.Indices.{getD-mapped, map-same}
 use Rattle.order_laws.proofs.Sorts.{input-mapped, output-mapped}
-use Rattle.levels_laws.specs.Algebra.{Algebra, netValue, cellValue, Fits, Before, Ranked}
+use Rattle.levels_laws.specs.Algebra.{Algebra, Commutative, netValue, cellValue, Fits, Before, Ranked}
 use Rattle.levels_laws.specs.Instances.{kleene, size, sizesIn}
+use Rattle.levels_laws.proofs.Commutes.{kleene-commutes, size-commutes}
 use Rattle.levels_laws.proofs.Operands.{value-slot}
 use Rattle.levels_laws.proofs.Valuations.{unique}
 use Rattle.levels_laws.proofs.Levels.{levels-fit, sizes-fit, size-grows}
@@ -62,7 +63,7 @@ module _ (d : Netlist) (rank : ℕ → ℕ) (sound : Sound d rank) where
 
   rewired-cells : rewired .cells ≡ map (visitMut mapped) (d .cells)
   unfolding applied
-  rewired-cells = ap (map (visitMut mapped)) (merging-cells d rank sound size (λ s. 0) sizes sized)
+  rewired-cells = ap (map (visitMut mapped)) (merging-cells d rank sound size size-commutes (λ s. 0) sizes sized)
 
   rewired-length : length (rewired .cells) ≡ total
   rewired-length = ap length rewired-cells ∙ length-map (d .cells) (visitMut mapped)
@@ -73,19 +74,19 @@ module _ (d : Netlist) (rank : ℕ → ℕ) (sound : Sound d rank) where
   cell-at : (s : ℕ) → s < total → cellIn (rewired .cells) s ≡ visitMut mapped (cellIn (d .cells) s)
   cell-at s l = ap (λ (cs : List Cell). cellIn cs s) rewired-cells ∙ getD-mapped (visitMut mapped) (d .cells) s (Input 0) (Input 0) l
 
-  module _ {A : Type 0} (alg : Algebra A) (own v : ℕ → A) (fits : Fits alg own (d .cells) v) where
+  module _ {A : Type 0} (alg : Algebra A) (comm : Commutative alg) (own v : ℕ → A) (fits : Fits alg own (d .cells) v) where
     pub rewired-fits : Fits alg own (rewired .cells) v
     unfolding Fits
     rewired-fits s l =
-        sym (mapped-value d rank sound alg own v fits (merging d .replaced) (merging-replaces d rank sound alg own v fits) s (inside s l))
+        sym (mapped-value d rank sound alg comm own v fits (merging d .replaced) (merging-replaces d rank sound alg comm own v fits) s (inside s l))
         ∙ ap (cellValue alg (netValue alg v) (own s)) (sym (cell-at s (inside s l)))
 
   -- what each operand of a slot stands for, and its size if it is read within a tick
   abbrev Operand : Net → Type 0
-  Operand m = Stands d rank sound size (λ s. 0) sizes sized (netValue size sizes m) (mapped m)
+  Operand m = Stands d rank sound size size-commutes (λ s. 0) sizes sized (netValue size sizes m) (mapped m)
 
   operands : (s : ℕ) → s < total → All Operand (visit (cellIn (d .cells) s))
-  operands = operands-stand d rank sound size (λ s. 0) sizes sized (merging d .replaced) (merging-replaces d rank sound size (λ s. 0) sizes sized)
+  operands = operands-stand d rank sound size size-commutes (λ s. 0) sizes sized (merging d .replaced) (merging-replaces d rank sound size size-commutes (λ s. 0) sizes sized)
 
   smaller : (s : ℕ) → s < total → All (λ m. netValue size sizes m < sizes s) (combReads (cellIn (d .cells) s))
   unfolding Fits
@@ -191,7 +192,7 @@ module _ (d : Netlist) (rank : ℕ → ℕ) (sound : Sound d rank) where
         let own : ℕ → Trit = λ s. getD given s Undef in
         unique kleene (rewired .cells) sizes rewired-ranked own (λ s. getD (levels (rewired .cells) given) s Undef) (λ s. getD (levels (d .cells) given) s Undef)
         (levels-fit (rewired .cells) sizes rewired-ranked given)
-        (rewired-fits kleene own (λ s. getD (levels (d .cells) given) s Undef) (levels-fit (d .cells) rank (sound .ranked) given))
+        (rewired-fits kleene kleene-commutes own (λ s. getD (levels (d .cells) given) s Undef) (levels-fit (d .cells) rank (sound .ranked) given))
         s (let n : length (rewired .cells) ≡ total = rewired-length in omega arith)
 
     rewired-keeps-levels : outputLevels (rewired .cells) bs ≡ outputLevels (d .cells) bs

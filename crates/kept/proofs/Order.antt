@@ -10,13 +10,14 @@ use lib.ListN.{length, getD, List·getD-eq-default}
 use borrow.Author.Tests.{eqb-true, eq-eqb}
 use Rattle.cell.specs.declared.Cell.the-variants.{Input}
 use Rattle.netlist.specs.Shape.{visit, isOutput}
-use Rattle.netlist.specs.Netlist.{Netlist, cellIn, slots, those, startOf, outputOf, iterCells, cellDeps}
+use Rattle.netlist.specs.Netlist.{Netlist, cellIn, startOf, outputOf, iterCells, cellDeps}
+use Rattle.basics.specs.Lists.{slots, those, has, All}
 use Rattle.order.specs.Orders.{iterCellsTopo}
-use Rattle.order_laws.specs.Ordered.{has, OnceAfter}
-use Rattle.order_laws.specs.Members.{All, Drives, Wired}
-use Rattle.order_laws.proofs.Truth.{and-both}
+use Rattle.order_laws.specs.Ordered.{OnceAfter}
+use Rattle.order_laws.specs.Members.{Drives, Wired}
+use Rattle.basics.proofs.Truth.{and-both}
 use Rattle.order_laws.proofs.Cells.{iterCellsTopo-once, iterCellsTopo-all}
-use Rattle.order_laws.proofs.Members.{has-slots, all-imp, all-every, has-those, has-passing, has-all}
+use Rattle.basics.proofs.Members.{has-slots, all-imp, all-every, has-those, has-passing, has-all}
 use Rattle.order_laws.proofs.Sorts.{outputs-by}
 use Rattle.order_laws.proofs.Operands.{all-deps, input-reads}
 use Rattle.kept.proofs.Sound.{Sound, start-inside, start-zero, start-kind, same-by, sound-wired}

@@ -11,11 +11,12 @@ use Rattle.value.specs.declared.Net.{Net}
 use Rattle.cell.specs.declared.Cell.{Cell}
 use Rattle.cell.specs.declared.Cell.the-variants.{Input}
 use Rattle.netlist.specs.Shape.{visitMut, isInput, isOutput, hasEffects}
-use Rattle.netlist.specs.Netlist.{Netlist, cellIn, slots, those}
+use Rattle.netlist.specs.Netlist.{Netlist, cellIn}
+use Rattle.basics.specs.Lists.{slots, those}
 use Rattle.compact.specs.Compact.{keep, netMap, compact}
 use Rattle.levels.specs.Evaluate.{levels, givenLevels, inputSlots, outputSlots, outputLevels}
-use Rattle.order_laws.proofs.Members.{all-tabulate, all-those, those-those, those-same, map-those}
-use Rattle.order_laws.proofs.Lists.{map-same, map-slots}
+use Rattle.basics.proofs.Members.{all-tabulate, all-those, those-those, those-same, map-those}
+use Rattle.basics.proofs.Indices.{map-same, map-slots}
 use Rattle.order_laws.proofs.Sorts.{input-mapped, output-mapped, input-effects, output-effects}
 use Rattle.levels_laws.specs.Instances.{kleene}
 use Rattle.levels_laws.proofs.Valuations.{unique, fits-own}

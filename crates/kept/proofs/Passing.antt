@@ -18,7 +18,7 @@ use Rattle.cell.specs.declared.Cell.the-variants.{Input, Output, Buf, Not, And,
 use Rattle.kinds.specs.Kinds.{kindOf, sortOf}
 use Rattle.cell.specs.Operands.{fieldOf, isOperand}
 use Rattle.cell.specs.Records.{recordOf, recordIn, cellRecord}
-use Rattle.cell.proofs.Lists.{tabulate-length, tabulate-at}
+use Rattle.basics.proofs.Tables.{tabulate-length, tabulate-at}
 use Rattle.loops.specs.Reach.{OnLoop}
 use Rattle.loops.proofs.Reach.{onLoop-false}
 use Rattle.checking.specs.declared.Verdict.the-variants.{Pass}
@@ -27,8 +27,9 @@ use Rattle.checking.specs.Checking.{unknownKind, reservedField, bitOutOfSequenc
 use Rattle.checking.proofs.Groups.{RecordPasses, kind-exactly, field-exactly, bit-exactly, operand-exactly, records-exactly, loops-exactly, netlist-exactly}
 use Rattle.netlist.specs.Shape.{visit}
 use Rattle.netlist.specs.Netlist.{Netlist, cellIn, encode}
-use Rattle.order_laws.specs.Members.{All, Wired}
-use Rattle.order_laws.proofs.Members.{all-imp}
+use Rattle.basics.specs.Lists.{All}
+use Rattle.order_laws.specs.Members.{Wired}
+use Rattle.basics.proofs.Members.{all-imp}
 use Rattle.order_laws.proofs.Sorts.{output-kind, kind-known}
 use Rattle.order_laws.proofs.Edges.{fields-have, FieldHas}
 use Rattle.levels_laws.proofs.Ranks.{ranked-no-loop}

@@ -13,7 +13,7 @@ use Rattle.kinds.specs.Kinds.{kindOf, sortOf}
 use Rattle.cell.specs.Records.{cellRecord}
 use Rattle.checking.specs.Checking.{follows, outOfSequence}
 use Rattle.netlist.specs.Shape.{visitMut}
-use Rattle.order_laws.proofs.Truth.{either}
+use Rattle.basics.proofs.Truth.{either}
 use Rattle.order_laws.proofs.Sorts.{kind-kept, record-bit}
 
 -- field a, where all bits of a cell have it in common, changes by the kind alone under a function put to each operand

@@ -16,11 +16,11 @@ use Rattle.cell.specs.Records.{cellRecord}
 use Rattle.checking.specs.Checking.{outOfSequence}
 use Rattle.netlist.specs.Shape.{visit, isOutput}
 use Rattle.netlist.specs.Netlist.{Netlist, cellIn, run, startOf, outputOf}
-use Rattle.order_laws.specs.Ordered.{has}
-use Rattle.order_laws.specs.Members.{All, Drives, Wired}
-use Rattle.order_laws.proofs.Members.{has-tabulate, all-tabulate, all-both, all-imp}
+use Rattle.basics.specs.Lists.{has, All}
+use Rattle.order_laws.specs.Members.{Drives, Wired}
+use Rattle.basics.proofs.Members.{has-tabulate, all-tabulate, all-both, all-imp}
 use Rattle.order_laws.proofs.Sorts.{record-bit, ByKind, same-sort}
-use Rattle.order_laws.proofs.Lists.{getD-inside}
+use Rattle.basics.proofs.Indices.{getD-inside}
 use Rattle.levels_laws.specs.Algebra.{Ranked}
 use Rattle.kept.proofs.Records.{Continues, continues}
 

@@ -11,13 +11,12 @@ use Rattle.logic.specs.declared.Trit.{Trit}
 use Rattle.logic.specs.declared.Trit.the-variants.{Undef}
 use Rattle.logic.specs.Levels.{levelOf}
 use Rattle.cell.specs.declared.Cell.{Cell}
-use Rattle.cell.specs.Tabulate.{tabulate}
-use Rattle.cell.proofs.Lists.{tabulate-length}
+use Rattle.basics.specs.Lists.{tabulate, slots, those}
+use Rattle.basics.proofs.Tables.{tabulate-length}
 use Rattle.netlist.specs.Shape.{isInput}
-use Rattle.netlist.specs.Netlist.{slots, those}
 use Rattle.levels.specs.Evaluate.{givenLevels}
 use Rattle.levels.proofs.Given.{given-length}
-use Rattle.order_laws.proofs.Truth.{either}
+use Rattle.basics.proofs.Truth.{either}
 use Rattle.kept.proofs.Chosen.{chosen, count, chosen-yes, chosen-no, place-of}
 
 -- how many inputs there are

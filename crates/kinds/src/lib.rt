@@ -1,7 +1,7 @@
 // The kind table: of what sort the cell of a record is, what its fields hold, and what else a kind says of it. No other crate knows a
 // kind by its number.
-use logic::both;
-use logic::either;
+use basics::both;
+use basics::either;
 ghost use mathlib.Core.Path.{_≡_};
 ghost use mathlib.Core.Bool.{not};
 ghost use lib.Dec.{eqb};

@@ -19,10 +19,10 @@ use Rattle.cell.specs.declared.Cell.{Cell}
 use Rattle.cell.specs.Records.{cellOf}
 use Rattle.netlist.specs.Shape.{isInput}
 use Rattle.netlist.specs.Netlist.{cellIn}
-use Rattle.netlist.specs.Areas.{wordRecord, wordsIn, Within, figuresAt, mixesAt, orderAt, replacedAt, visitedAt}
+use Rattle.netlist.specs.inner.Areas.{wordRecord, wordsIn, Within, figuresAt, mixesAt, orderAt, replacedAt, visitedAt}
 use Rattle.netlist.proofs.Frames.{within-none, within-then, within-wider, record-kept, records-kept, words-kept}
 use Rattle.order.specs.Orders.{topoSort}
-use Rattle.order.specs.Code.{Sorts}
+use Rattle.order.specs.inner.Code.{Sorts}
 use Rattle.levels.specs.Evaluate.{givenLevels}
 use Rattle.levels.specs.Fold.{cellsIn, levelsAt, inputAt, placedLevel, foldIn, slotLevel, bitLevels}
 use Rattle.netlist.proofs.Cells.{cells-length, cell-at, input-kind}

@@ -13,9 +13,9 @@ use Rattle.logic.specs.Levels.{byteOf, levelOf}
 use Rattle.logic.proofs.Bytes.{level-byte}
 use Rattle.cell.specs.declared.Cell.{Cell}
 use Rattle.cell.specs.Records.{cellOf}
-use Rattle.cell.specs.Tabulate.{tabulate}
-use Rattle.cell.proofs.Lists.{tabulate-length, tabulate-at}
-use Rattle.netlist.specs.Areas.{wordRecord, wordsIn, Within, figuresAt, mixesAt, orderAt}
+use Rattle.basics.specs.Lists.{tabulate}
+use Rattle.basics.proofs.Tables.{tabulate-length, tabulate-at}
+use Rattle.netlist.specs.inner.Areas.{wordRecord, wordsIn, Within, figuresAt, mixesAt, orderAt}
 use Rattle.netlist.proofs.Frames.{within-none, within-then, within-set, records-kept}
 use Rattle.levels.specs.Evaluate.{netLevel, cellLevel}
 use Rattle.levels.specs.Fold.{cellsIn, levelsAt, foldIn, slotLevel}

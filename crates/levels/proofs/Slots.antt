@@ -1,70 +1,22 @@
 -- Slots of a kind, and how many there are. Assumes nothing.
-use mathlib.Core.Path.{_≡_, refl, sym, ap, ap₂, _∙_, subst}
-use mathlib.Core.Bool.{Bool, true, false, cond}
-use mathlib.Core.List.{List, [], _∷_, _++_, map}
-use Prim.Native.Nat.{ℕ, zero, suc, _+_, _<_, _≤_}
+use mathlib.Core.Path.{_≡_, refl, sym, ap, ap₂, _∙_}
+use mathlib.Core.Bool.{true, false, cond}
+use mathlib.Core.List.{List}
+use Prim.Native.Nat.{ℕ, _+_, _<_, _≤_}
 use native.Mathlib.Omega.{arith}
-use native.Mathlib.Numerals.{add-one}
-use native.Mathlib.Decide.{decLt}
-use borrow.Author.Tests.{eqb-true, eq-eqb, ne-eqb}
+use borrow.Author.Tests.{eq-eqb, ne-eqb}
 use lib.Dec.{eqb}
-use lib.ListN.{length, getD, length-append, length-map}
+use lib.ListN.{length}
 use Rattle.cell.specs.declared.Record.{Record}
-use Rattle.cell.specs.declared.Cell.{Cell}
-use Rattle.cell.specs.declared.Cell.the-variants.{Input}
-use Rattle.cell.specs.Records.{recordIn, cellOf, recordOf}
-use Rattle.cell.specs.Tabulate.{tabulate}
-use Rattle.cell.proofs.Lists.{tabulate-length, tabulate-at}
+use Rattle.cell.specs.Records.{recordOf}
+use Rattle.basics.specs.Lists.{tabulate, slots, those}
+use Rattle.basics.proofs.Tables.{tabulate-length, tabulate-at}
+use Rattle.basics.proofs.Those.{slots-same, count-more}
 use Rattle.netlist.specs.Shape.{isInput, isOutput}
-use Rattle.netlist.specs.Netlist.{cellIn, slots, those}
-use Rattle.netlist.specs.Areas.{wordRecord, recordsIn}
+use Rattle.netlist.specs.inner.Areas.{wordRecord, recordsIn}
 use Rattle.netlist.proofs.Cells.{cells-length, cell-at, input-kind, output-kind}
 use Rattle.levels.specs.Evaluate.{inputSlots, outputSlots}
 use Rattle.levels.specs.Fold.{cellsIn, ofKind}
-
-pub those-snoc : {A : Type 0} (p : A → Bool) (xs : List A) (x : A) → those p (xs ++ (x ∷ [])) ≡ those p xs ++ cond (p x) (x ∷ []) []
-unfolding those
-those-snoc p [] x = refl
-those-snoc p (y ∷ xs) x = go (p y) (those-snoc p xs x)
-  where
-    go : (b : Bool) → those p (xs ++ (x ∷ [])) ≡ those p xs ++ cond (p x) (x ∷ []) []
-        → cond b (y ∷ those p (xs ++ (x ∷ []))) (those p (xs ++ (x ∷ []))) ≡ cond b (y ∷ those p xs) (those p xs) ++ cond (p x) (x ∷ []) []
-    go true e = ap (λ (l : List _). y ∷ l) e
-    go false e = e
-
--- of the slots below s, those that pass a test
-pub slots-more : (p : ℕ → Bool) (s : ℕ) → those p (slots (s + 1)) ≡ those p (slots s) ++ cond (p s) (s ∷ []) []
-unfolding tabulate
-slots-more p s = rw (add-one s) (those-snoc p (slots s) s)
-
-pub count-more : (p : ℕ → Bool) (s : ℕ) → length (those p (slots (s + 1))) ≡ length (those p (slots s)) + cond (p s) 1 0
-count-more p s = ap length (slots-more p s) ∙ length-append (those p (slots s)) (cond (p s) (s ∷ []) []) ∙ ap (λ (k : ℕ). length (those p (slots s)) + k) (go (p s))
-  where
-    go : (b : Bool) → length (cond b (s ∷ []) []) ≡ cond b 1 0
-    go true = refl
-    go false = refl
-
-pub count-grows : (p : ℕ → Bool) (s n : ℕ) → s ≤ n → length (those p (slots s)) ≤ length (those p (slots n))
-count-grows p s zero l = ap-count (omega arith)
-  where
-    ap-count : s ≡ 0 → length (those p (slots s)) ≤ length (those p (slots 0))
-    ap-count e = rw e (omega arith)
-count-grows p s (suc n) l = go (count-grows p s n) (decLt n s)
-  where
-    more : length (those p (slots n)) ≤ length (those p (slots (suc n)))
-    more = subst (λ (k : ℕ). length (those p (slots n)) ≤ length (those p (slots k))) (add-one n) (rw (count-more p n) (omega arith))
-
-    go : (s ≤ n → length (those p (slots s)) ≤ length (those p (slots n))) → Dec (n < s) → length (those p (slots s)) ≤ length (those p (slots (suc n)))
-    go rec (yes h) = let e : s ≡ suc n = omega arith in rw e (omega arith)
-    go rec (no h) = omega (arith, rec (omega arith), more)
-
-pub slots-same : (p q : ℕ → Bool) (n : ℕ) → ((s : ℕ) → s < n → p s ≡ q s) → those p (slots n) ≡ those q (slots n)
-unfolding tabulate those
-slots-same p q zero h = refl
-slots-same p q (suc n) h =
-    those-snoc p (slots n) n
-    ∙ ap₂ (λ (l : List ℕ) (b : Bool). l ++ cond b (n ∷ []) []) (slots-same p q n (λ s l. h s (omega arith))) (h n (omega arith))
-    ∙ sym (those-snoc q (slots n) n)
 
 -- a slot whose record is of a kind, or of another
 module _ (ws : List ℕ) (s : ℕ) (r : Record) (r-is : r ≡ wordRecord ws s) (kind : ℕ) where

@@ -1,10 +1,10 @@
 -- Levels of a netlist by Kleene's tables (paper, module 2). Assumes nothing: these are definitions.
-use mathlib.Core.Bool.{Bool, cond}
+use mathlib.Core.Bool.{cond}
 use mathlib.Core.List.{List, [], _∷_, map}
 use Prim.Native.Nat.{ℕ, zero, suc}
 use lib.ListN.{length, getD, drop, replicate}
 use Rattle.logic.specs.declared.Trit.{Trit}
-use Rattle.logic.specs.declared.Trit.the-variants.{Zero, One, Undef}
+use Rattle.logic.specs.declared.Trit.the-variants.{Undef}
 use Rattle.logic.specs.Levels.{notLevel, andLevel, orLevel, xorLevel, muxLevel, levelOf}
 use Rattle.value.specs.declared.Net.{Net}
 use Rattle.value.specs.declared.ControlNet.{ControlNet}
@@ -14,9 +14,9 @@ use Rattle.value.specs.declared.Driver.the-variants as driven
 use Rattle.value.specs.Value.{driver}
 use Rattle.cell.specs.declared.Cell.{Cell}
 use Rattle.cell.specs.declared.Cell.the-variants.{Input, Output, Buf, Not, And, Or, Xor, Mux, Aig}
-use Rattle.cell.specs.Tabulate.{tabulate}
+use Rattle.basics.specs.Lists.{tabulate, slots, those}
 use Rattle.netlist.specs.Shape.{isInput, isOutput}
-use Rattle.netlist.specs.Netlist.{cellIn, slots, those}
+use Rattle.netlist.specs.Netlist.{cellIn}
 
 -- the level of a net, given the levels of the slots
 abbrev pub drivenLevel : List Trit → Driver → Trit

@@ -12,9 +12,9 @@ use Rattle.kinds.specs.Kinds.{numberOf}
 use Rattle.cell.specs.declared.Record.{Record}
 use Rattle.cell.specs.declared.Cell.{Cell}
 use Rattle.cell.specs.Records.{recordIn, cellOf}
-use Rattle.cell.specs.Tabulate.{tabulate}
-use Rattle.netlist.specs.Netlist.{cellIn, slots, those}
-use Rattle.netlist.specs.Areas.{wordRecord, recordsIn, figuresAt}
+use Rattle.basics.specs.Lists.{tabulate, slots, those}
+use Rattle.netlist.specs.Netlist.{cellIn}
+use Rattle.netlist.specs.inner.Areas.{wordRecord, recordsIn, figuresAt}
 use Rattle.order.specs.Orders.{topoSort}
 use Rattle.levels.specs.Evaluate.{netLevel, cellLevel, givenLevels, outputSlots}
 

@@ -11,7 +11,7 @@ ghost use mathlib.Core.Bool.{cond};
 ghost use Prim.Native.Nat.{_+_, _≤_, _<_};
 ghost use lib.ListN.{length, getD, set};
 ghost use Rattle.logic.specs.Levels.{byteOf, levelOf};
-ghost use Rattle.netlist.specs.Areas.{recordsIn, wordsIn, orderAt, figuresAt, Within, mixesAt, visitedAt};
+ghost use Rattle.netlist.specs.inner.Areas.{recordsIn, wordsIn, orderAt, figuresAt, Within, mixesAt, visitedAt};
 ghost use Rattle.levels.specs.Evaluate.{netLevel, controlLevel, cellLevel, givenLevels};
 ghost use Rattle.levels.specs.Fold.{cellsIn, ofKind, levelsAt, inputAt, placedLevel, foldIn, slotLevel, bitLevels};
 
@@ -42,7 +42,7 @@ pub fn level_at(work: &[u32], n: u32, s: Slot) -> Trit
 {
     let i = s.0;
     if i < n {
-        return Trit::from_byte(cell::word(work, area::FIGURES + (i as usize)));
+        return Trit::from_byte(basics::word(work, area::FIGURES + (i as usize)));
     }
     Trit::Undef
 }
@@ -50,7 +50,7 @@ pub fn level_at(work: &[u32], n: u32, s: Slot) -> Trit
 fn put_level(work: &mut [u32], s: Slot, t: Trit)
     ensures { λ _. ⌜ now (work .exit) ≡ set (now (work .entry)) (figuresAt + s .0) (byteOf t) ⌝ }
 {
-    cell::put(work, area::FIGURES + (s.0 as usize), t.to_byte());
+    basics::put(work, area::FIGURES + (s.0 as usize), t.to_byte());
 }
 
 fn net_level(work: &[u32], n: u32, x: Net) -> Trit
@@ -116,7 +116,7 @@ fn fold(work: &mut [u32], n: u32, count: u32)
 {
     let mut i: u32 = 0;
     while i < count {
-        let s = cell::word(work, area::ORDER + (i as usize));
+        let s = basics::word(work, area::ORDER + (i as usize));
         update(work, n, Slot(s));
         i += 1;
     }
@@ -128,7 +128,7 @@ fn stimulus_level(stimulus: &[u8], k: u32) -> Trit
 {
     let i = k as usize;
     if i < stimulus.len() {
-        return Trit::from_byte(cell::byte(stimulus, i) as u32);
+        return Trit::from_byte(basics::byte(stimulus, i) as u32);
     }
     Trit::Undef
 }

@@ -11,7 +11,7 @@ use Rattle.cell.specs.declared.Cell.{Cell}
 use Rattle.cell.specs.Records.{recordsOf, cellOf}
 use Rattle.cell.proofs.Lists.{records-length}
 use Rattle.netlist.specs.Netlist.{netlistOf}
-use Rattle.netlist.specs.Areas.{recordsIn, Within, mixesAt, visitedAt}
+use Rattle.netlist.specs.inner.Areas.{recordsIn, Within, mixesAt, visitedAt}
 use Rattle.netlist.proofs.Frames.{within-drop, records-kept}
 use Rattle.levels.specs.Evaluate.{givenLevels, outputSlots}
 use Rattle.levels.specs.Fold.{cellsIn, ofKind, levelsAt, bitLevels, bitOutputs}
@@ -31,11 +31,11 @@ use Rattle.calls.specs.declared.Written.the-variants.{Accepted, Refused}
 use Rattle.calls.specs.Answers.{writtenBy}
 use Rattle.calls.specs.Work.{cleared}
 use Rattle.calls.specs.Calls.{put, room, decoded, levelBytes, stimulusStages, levelVerdict, levelAnswer, levelReply}
-use Rattle.delivery.specs.Delivery.{Passed, Delivers, Begins}
+use Rattle.delivery.specs.inner.Delivery.{Passed, Delivers, Begins}
 use Rattle.delivery.proofs.Deciding.{refused-decides, passed-decides}
 use Rattle.delivery.proofs.Delivering.{delivers-none, delivers-all}
 use Rattle.delivery.proofs.Shell.{Steps, called-written}
-use Rattle.levels_call.specs.Levels.{writtenLevels, bitBytes, levelStages, Levels}
+use Rattle.levels_call.specs.inner.Levels.{writtenLevels, bitBytes, levelStages, Levels}
 
 -- 12, or the levels
 map-map : (f : Trit → ℕ) (g : ℕ → Trit) (xs : List ℕ) → map f (map g xs) ≡ map (λ x. f (g x)) xs

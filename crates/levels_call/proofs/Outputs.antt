@@ -11,13 +11,13 @@ use Rattle.logic.specs.declared.Trit.{Trit}
 use Rattle.logic.specs.declared.Trit.the-variants.{Undef}
 use Rattle.logic.specs.Levels.{byteOf}
 use Rattle.cell.specs.declared.Record.{Record}
-use Rattle.cell.specs.Tabulate.{tabulate}
-use Rattle.netlist.specs.Netlist.{slots, those}
-use Rattle.netlist.specs.Areas.{wordRecord, recordsIn}
+use Rattle.basics.specs.Lists.{tabulate, slots, those}
+use Rattle.netlist.specs.inner.Areas.{wordRecord, recordsIn}
 use Rattle.levels.specs.Fold.{ofKind, levelsAt}
-use Rattle.levels.proofs.Slots.{of-kind, of-another, slots-more, count-more, count-grows, kind-slots}
+use Rattle.levels.proofs.Slots.{of-kind, of-another, kind-slots}
+use Rattle.basics.proofs.Those.{slots-more, count-more, count-grows}
 use Rattle.calls.specs.Calls.{put}
-use Rattle.levels_call.specs.Levels.{outputAt, byteAt, putLevel, writtenLevels}
+use Rattle.levels_call.specs.inner.Levels.{outputAt, byteAt, putLevel, writtenLevels}
 
 -- one slot, by its kind
 module _ (ws : List ℕ) (s : ℕ) (r : Record) (r-is : r ≡ wordRecord ws s) where

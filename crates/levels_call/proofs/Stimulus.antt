@@ -7,7 +7,7 @@ use native.Mathlib.Omega.{arith}
 use lib.Dec.{eqb, ltb}
 use lib.ListN.{length, getD}
 use borrow.Author.Tests.{lt-ltb, le-ltb, eq-eqb, ne-eqb}
-use Rattle.netlist.specs.Areas.{recordsIn}
+use Rattle.netlist.specs.inner.Areas.{recordsIn}
 use Rattle.levels.specs.Evaluate.{inputSlots}
 use Rattle.levels.specs.Fold.{cellsIn, ofKind}
 use Rattle.levels.proofs.Slots.{input-slots}

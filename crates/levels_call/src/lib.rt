@@ -9,13 +9,13 @@ ghost use Prim.Native.Nat.{_≤_};
 ghost use Rattle.kinds.specs.declared.Sort.the-variants as sort;
 ghost use Rattle.kinds.specs.Kinds.{numberOf};
 ghost use lib.ListN.{length};
-ghost use Rattle.netlist.specs.Areas.{recordsIn};
+ghost use Rattle.netlist.specs.inner.Areas.{recordsIn};
 ghost use Rattle.levels.specs.Fold.{cellsIn, ofKind};
 ghost use Rattle.checking.specs.Refusals.{firstOf};
 ghost use Rattle.calls.specs.Calls.{put, stimulusStages, levelAnswer, levelReply};
 ghost use Rattle.calls.specs.Work.{cleared};
-ghost use Rattle.delivery.specs.Delivery.{Passed};
-ghost use Rattle.levels_call.specs.Levels.{outputAt, putLevel, writtenLevels, DeliversLevels, Levels};
+ghost use Rattle.delivery.specs.inner.Delivery.{Passed};
+ghost use Rattle.levels_call.specs.inner.Levels.{outputAt, putLevel, writtenLevels, DeliversLevels, Levels};
 
 // 10 and 11.
 fn stimulus_verdict(work: &[u32], n: u32, stimulus: &[u8]) -> Verdict
@@ -28,7 +28,7 @@ fn stimulus_verdict(work: &[u32], n: u32, stimulus: &[u8]) -> Verdict
     }
     let mut i: u32 = 0;
     while i < count {
-        if 2 < cell::byte(stimulus, i as usize) {
+        if 2 < basics::byte(stimulus, i as usize) {
             return Verdict::Refused(Refusal::LevelValue(i));
         }
         i += 1;
@@ -45,7 +45,7 @@ fn write_at(work: &[u32], n: u32, s: Slot, reply: &mut [u8], k: u32) -> u32
     let kind = netlist::record_in(work, s).kind;
     if kind == kinds::OUTPUT {
         let t = levels::level_at(work, n, s);
-        cell::put_byte(reply, k as usize, t.to_byte() as u8);
+        basics::put_byte(reply, k as usize, t.to_byte() as u8);
         return 1;
     }
     0

@@ -14,11 +14,11 @@ use Rattle.value.specs.declared.Driver.the-variants as driven
 use Rattle.value.specs.Value.{driver, net}
 use Rattle.cell.specs.declared.Cell.{Cell}
 use Rattle.cell.specs.declared.Cell.the-variants.{Input, Output, Buf, Not, And, Or, Xor, Mux, Aig}
-use Rattle.cell.proofs.Lists.{tabulate-at}
+use Rattle.basics.proofs.Tables.{tabulate-at}
 use Rattle.netlist.specs.Shape.{visit, combReads}
 use Rattle.netlist.specs.Netlist.{cellIn}
 use Rattle.levels.specs.Evaluate.{netLevel, drivenLevel, controlLevel, cellLevel, roundOf, levelsIn, levels}
-use Rattle.order_laws.specs.Members.{All}
+use Rattle.basics.specs.Lists.{All}
 use Rattle.levels_laws.specs.Algebra.{netValue, drivenValue, controlValue, cellValue, Fits, Ranked}
 use Rattle.levels_laws.specs.Instances.{kleene, size, sizesIn, LevelsFit}
 use Rattle.levels_laws.proofs.Valuations.{unique, rounds-fit}

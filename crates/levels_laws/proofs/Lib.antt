@@ -2,3 +2,4 @@ pub mod Operands
 pub mod Valuations
 pub mod Ranks
 pub mod Levels
+pub mod Commutes

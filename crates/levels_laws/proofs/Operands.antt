@@ -13,7 +13,8 @@ use Rattle.value.specs.Value.{driver, net}
 use Rattle.cell.specs.declared.Cell.{Cell}
 use Rattle.cell.specs.declared.Cell.the-variants.{Input, Output, Buf, Not, And, Or, Xor, Mux, Aig}
 use Rattle.netlist.specs.Shape.{visit, visitControl, visitMut, isSource, combReads}
-use Rattle.order_laws.specs.Members.{All, Drives}
+use Rattle.basics.specs.Lists.{All}
+use Rattle.order_laws.specs.Members.{Drives}
 use Rattle.levels_laws.specs.Algebra.{Algebra, drivenValue, netValue, controlValue, cellValue}
 
 module _ {A : Type 0} (alg : Algebra A) where

@@ -11,7 +11,7 @@ use Rattle.cell.specs.declared.Cell.the-variants.{Input}
 use Rattle.cell.specs.Operands.{edgeAt}
 use Rattle.cell.specs.Records.{recordOf, recordIn, cellRecord}
 use Rattle.loops.specs.Reach.{OnLoop, reaches, onLoop}
-use Rattle.loops.specs.Counted.{counted}
+use Rattle.loops.specs.inner.Counted.{counted}
 use Rattle.loops.proofs.Counting.{counted-le, counted-less}
 use Rattle.loops.proofs.Edges.{edge-below}
 use Rattle.loops.proofs.Reach.{onLoop-false}
@@ -19,11 +19,11 @@ use Rattle.loops.proofs.Rank.{rank, rank-falls, falls-no-loop}
 use Rattle.netlist.specs.Netlist.{cellIn}
 use Rattle.netlist.specs.Shape.{combReads}
 use Rattle.order.specs.Orders.{bitDeps}
-use Rattle.order_laws.specs.Ordered.{has}
+use Rattle.basics.specs.Lists.{has}
 use Rattle.order_laws.specs.Members.{Drives}
-use Rattle.order_laws.proofs.Lists.{getD-mapped}
+use Rattle.basics.proofs.Indices.{getD-mapped}
 use Rattle.order_laws.proofs.Edges.{edges-have, have-edges}
-use Rattle.order_laws.proofs.Members.{all-imp}
+use Rattle.basics.proofs.Members.{all-imp}
 use Rattle.order_laws.proofs.Bits.{sourcesLast, deps-fall}
 use Rattle.levels_laws.specs.Algebra.{Ranked, Before}
 

@@ -7,7 +7,7 @@ use lib.ListN.{length}
 use Rattle.cell.specs.declared.Cell.{Cell}
 use Rattle.netlist.specs.Shape.{combReads}
 use Rattle.netlist.specs.Netlist.{cellIn}
-use Rattle.order_laws.proofs.Members.{all-imp}
+use Rattle.basics.proofs.Members.{all-imp}
 use Rattle.levels_laws.specs.Algebra.{Algebra, netValue, cellValue, Fits, Before, Ranked}
 use Rattle.levels_laws.proofs.Operands.{value-same, cell-same}
 

@@ -14,10 +14,10 @@ use Rattle.cell.specs.declared.Cell.{Cell}
 use Rattle.cell.specs.declared.Cell.the-variants.{Input, Output, Buf, Not, And, Or, Xor, Mux, Aig}
 use Rattle.netlist.specs.Shape.{combReads}
 use Rattle.netlist.specs.Netlist.{cellIn}
-use Rattle.order_laws.specs.Members.{All, Drives}
+use Rattle.basics.specs.Lists.{All}
+use Rattle.order_laws.specs.Members.{Drives}
 
--- what a constant is worth, and how each kind of cell computes its value from those of its operands. And, or and xor are commutative. An
--- and-inverter is an and of operands, inverted where they are negative
+-- what a constant is worth, and how each kind of cell computes its value from those of its operands. An and-inverter is an and of operands, inverted where they are negative
 pub record Algebra (A : Type 0) : Type 0 where
   pub const : Trit → A
   pub output : A → A
@@ -27,9 +27,12 @@ pub record Algebra (A : Type 0) : Type 0 where
   pub or : A → A → A
   pub xor : A → A → A
   pub mux : A → A → A → A
-  pub and-comm : (x y : A) → and x y ≡ and y x
-  pub or-comm : (x y : A) → or x y ≡ or y x
-  pub xor-comm : (x y : A) → xor x y ≡ xor y x
+
+-- one in which the order of two operands does not matter
+pub record Commutative {A : Type 0} (alg : Algebra A) : Type 0 where
+  pub and-comm : (x y : A) → alg .and x y ≡ alg .and y x
+  pub or-comm : (x y : A) → alg .or x y ≡ alg .or y x
+  pub xor-comm : (x y : A) → alg .xor x y ≡ alg .xor y x
 
 module _ {A : Type 0} (alg : Algebra A) where
   -- the value of a net, given those of the slots

@@ -2,12 +2,10 @@
 use mathlib.Core.Path.{_≡_}
 use mathlib.Core.List.{List}
 use Prim.Native.Nat.{ℕ, zero, suc, _+_, _<_}
-use native.Mathlib.Omega.{arith}
 use lib.ListN.{length, getD}
 use Rattle.logic.specs.declared.Trit.{Trit}
 use Rattle.logic.specs.declared.Trit.the-variants.{Undef}
 use Rattle.logic.specs.Levels.{notLevel, andLevel, orLevel, xorLevel, muxLevel}
-use Rattle.logic.proofs.Laws.{and-comm, or-comm, xor-comm}
 use Rattle.cell.specs.declared.Cell.{Cell}
 use Rattle.netlist.specs.Netlist.{cellIn}
 use Rattle.levels.specs.Evaluate.{netLevel, cellLevel}
@@ -23,9 +21,6 @@ kleene = record {
   or = orLevel;
   xor = xorLevel;
   mux = muxLevel;
-  and-comm = and-comm;
-  or-comm = or-comm;
-  xor-comm = xor-comm;
 }
 
 abbrev pub size : Algebra ℕ
@@ -38,9 +33,6 @@ size = record {
   or = λ x y. suc (x + y);
   xor = λ x y. suc (x + y);
   mux = λ x y z. suc (x + y + z);
-  and-comm = λ x y. omega arith;
-  or-comm = λ x y. omega arith;
-  xor-comm = λ x y. omega arith;
 }
 
 -- the sizes of the slots after k rounds

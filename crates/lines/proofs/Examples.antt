@@ -4,7 +4,8 @@ use mathlib.Core.List.{[], _∷_}
 use Rattle.value.specs.Value.{slotAt}
 use Rattle.cell.specs.Bytes.{word16, word32, bytes16, bytes32}
 use Rattle.cell.specs.Records.{recordOf, recordAt, bytesOf}
-use Rattle.netlist.specs.Netlist.{joined, ticketOf}
+use Rattle.basics.specs.Lists.{joined}
+use Rattle.netlist.specs.Netlist.{ticketOf}
 use Rattle.checking.specs.declared.Refusal.the-variants.{Loop}
 use Rattle.lines.specs.Ascii.{ascii}
 use Rattle.lines.specs.Decimal.{digitsIn, decimal}

@@ -115,35 +115,3 @@ impl Trit {
         }
     }
 }
-
-// The connectives of truth values as calls: a test that is put together of them has no branch.
-pub fn both(a: bool, b: bool) -> bool
-    ensures { λ r. ⌜ r ≡ a && b ⌝ }
-{
-    if a {
-        return b;
-    }
-    false
-}
-
-pub fn either(a: bool, b: bool) -> bool
-    ensures { λ r. ⌜ r ≡ a || b ⌝ }
-{
-    if a {
-        return true;
-    }
-    b
-}
-
-// One of two numbers, likewise.
-pub fn pick8(b: bool, x: u8, y: u8) -> u8
-    ensures { λ r. ⌜ r ≡ cond b x y ⌝ }
-{
-    if b { x } else { y }
-}
-
-pub fn pick32(b: bool, x: u32, y: u32) -> u32
-    ensures { λ r. ⌜ r ≡ cond b x y ⌝ }
-{
-    if b { x } else { y }
-}

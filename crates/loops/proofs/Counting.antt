@@ -5,7 +5,7 @@ use Prim.Native.Nat.{ℕ, zero, suc, _+_, _<_, _≤_}
 use native.Mathlib.Omega.{arith}
 use lib.Dec.{eqb}
 use borrow.Author.Tests.{eqb-true, eqb-false}
-use Rattle.loops.specs.Counted.{one, counted}
+use Rattle.loops.specs.inner.Counted.{one, counted}
 
 one-le : (b : Bool) → one b ≤ 1
 one-le true = omega arith

@@ -6,13 +6,12 @@ use Prim.Native.Nat.{ℕ, zero, suc, _<_}
 use native.Mathlib.Omega.{arith}
 use native.Mathlib.Decide.{decLt}
 use lib.ListN.{length}
-use Rattle.value.specs.declared.Slot.{Slot}
 use Rattle.value.specs.Value.{slotAt}
 use Rattle.cell.specs.declared.Record.{Record}
 use Rattle.loops.specs.declared.Found.{Found}
 use Rattle.loops.specs.declared.Found.the-variants.{At, Nothing}
 use Rattle.loops.specs.Reach.{onLoop}
-use Rattle.loops.specs.Search.{orElse, lowest, lowestOnLoop}
+use Rattle.loops.specs.inner.Search.{orElse, lowest, lowestOnLoop}
 
 apart : (b : Bool) → b ≡ true → b ≡ false → ⊥
 apart b x y = let z : _≡_ {A = ℕ} 0 1 = cc in omega arith

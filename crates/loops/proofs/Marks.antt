@@ -15,8 +15,8 @@ use Rattle.cell.specs.declared.Edge.the-variants.{To}
 use Rattle.cell.specs.Operands.{edgeAt}
 use Rattle.cell.specs.Records.{recordIn}
 use Rattle.loops.specs.declared.Stop.{Stop}
-use Rattle.loops.specs.Search.{Searchable}
-use Rattle.loops.specs.Walk.{mark, unvisited, Before, Walking, Ready, Leaves}
+use Rattle.loops.specs.inner.Search.{Searchable}
+use Rattle.loops.specs.inner.Walk.{mark, unvisited, Before, Walking, Ready, Leaves}
 use Rattle.loops.proofs.Counting.{counted-grows, counted-less}
 
 -- a mark after a store: the new one at its place, the old one at every other

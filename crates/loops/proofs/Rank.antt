@@ -11,7 +11,7 @@ use Rattle.cell.specs.declared.Edge.the-variants.{To}
 use Rattle.cell.specs.Operands.{edgeAt}
 use Rattle.cell.specs.Records.{recordIn}
 use Rattle.loops.specs.Reach.{Reaches, edge, path, OnLoop, reaches, onLoop}
-use Rattle.loops.specs.Counted.{counted}
+use Rattle.loops.specs.inner.Counted.{counted}
 use Rattle.loops.proofs.Counting.{counted-le, counted-less}
 use Rattle.loops.proofs.Edges.{edge-below}
 use Rattle.loops.proofs.Reach.{reaches-iff, onLoop-iff, onLoop-false}

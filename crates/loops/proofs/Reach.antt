@@ -18,7 +18,7 @@ use Rattle.kinds.specs.Kinds.{kindOf, useOf, sortOf}
 use Rattle.cell.specs.Operands.{isOperand, isCombEdge, edgeAt}
 use Rattle.cell.specs.Records.{recordOf, recordIn}
 use Rattle.loops.specs.Reach.{Reaches, edge, path, OnLoop, hits, leads, stepBack, reachingIn, reaches, onLoop}
-use Rattle.loops.specs.Counted.{counted}
+use Rattle.loops.specs.inner.Counted.{counted}
 use Rattle.loops.proofs.Counting.{counted-le, counted-same}
 use Rattle.loops.proofs.Edges.{edge-field, edge-below}
 

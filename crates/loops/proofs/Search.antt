@@ -21,8 +21,8 @@ use Rattle.loops.specs.declared.Stop.the-variants.{Any, At}
 use Rattle.loops.specs.declared.Found.{Found}
 use Rattle.loops.specs.declared.Found.the-variants as found
 use Rattle.loops.specs.Reach.{Reaches, edge, path, onLoop}
-use Rattle.loops.specs.Search.{Searchable, Finds}
-use Rattle.loops.specs.Walk.{mark, unvisited, stopsAt, Stopped, Reached, Within, Before, Walking, Ready, Coming, Leaves, Visits, Meets, Cleared, Frees, Tells}
+use Rattle.loops.specs.inner.Search.{Searchable, Finds}
+use Rattle.loops.specs.inner.Walk.{mark, unvisited, stopsAt, Stopped, Reached, Within, Before, Walking, Ready, Coming, Leaves, Visits, Meets, Cleared, Frees, Tells}
 use Rattle.loops.proofs.Counting.{counted-le}
 use Rattle.loops.proofs.Edges.{edge-below}
 use Rattle.loops.proofs.Reach.{onLoop-iff, onLoop-false}

@@ -23,7 +23,7 @@ use Rattle.cell.proofs.Lists.{records-length, records-at}
 use Rattle.loops.specs.declared.Stop.{Stop}
 use Rattle.loops.specs.declared.Stop.the-variants.{Any, At}
 use Rattle.loops.specs.Reach.{Reaches, edge}
-use Rattle.loops.specs.Walk.{mark, unvisited, stopsAt, Stopped, Reached, Within, Before, Walking, Ready, Coming, Leaves, Walked, Visits, Meets, Follows}
+use Rattle.loops.specs.inner.Walk.{mark, unvisited, stopsAt, Stopped, Reached, Within, Before, Walking, Ready, Coming, Leaves, Walked, Visits, Meets, Follows}
 use Rattle.loops.proofs.Edges.{edge-range}
 use Rattle.loops.proofs.Rank.{reaches-by}
 use Rattle.loops.proofs.Marks.{before-kept, unvisited-kept, opens-fewer, finishes, finished-last}

@@ -1,4 +1,2 @@
 pub mod Reach
-pub mod Search
-pub mod Counted
-pub mod Walk
+pub mod inner

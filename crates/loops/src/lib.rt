@@ -7,8 +7,8 @@ ghost use mathlib.Core.Path.{_≡_};
 ghost use Prim.Native.Nat.{_≤_, _<_};
 ghost use lib.ListN.{length};
 ghost use Rattle.cell.specs.Records.{recordAt, recordsOf};
-ghost use Rattle.loops.specs.Search.{Searchable, Finds};
-ghost use Rattle.loops.specs.Walk.{stopsAt, Ready, Coming, Visits, Meets, Follows, Cleared, Frees, Tells};
+ghost use Rattle.loops.specs.inner.Search.{Searchable, Finds};
+ghost use Rattle.loops.specs.inner.Walk.{stopsAt, Ready, Coming, Visits, Meets, Follows, Cleared, Frees, Tells};
 
 // Which open slots end a walk that meets them: each, or one.
 enum Stop {
@@ -37,12 +37,12 @@ fn visit(work: &mut [u32], ticket: &[u8], stop: Stop, s: Slot, clock: u32) -> u3
     ensures { λ r. ⌜ Visits (recordsOf (now (ticket .entry))) stop clock (now (work .entry)) (now (work .exit)) (s .0) r ⌝ }
 {
     let i = s.0 as usize;
-    cell::put(work, i, 1);
+    basics::put(work, i, 1);
     let next = visit_edges(work, ticket, stop, s, clock);
     if next == 0 {
         return 0;
     }
-    cell::put(work, i, next);
+    basics::put(work, i, next);
     next + 1
 }
 
@@ -88,7 +88,7 @@ fn meet(work: &mut [u32], ticket: &[u8], stop: Stop, x: Slot, clock: u32) -> u32
     requires { ⌜ Coming (recordsOf (now ticket)) stop clock (now work) (x .0) ⌝ }
     ensures { λ r. ⌜ Meets (recordsOf (now (ticket .entry))) stop clock (now (work .entry)) (now (work .exit)) (x .0) r ⌝ }
 {
-    let mark = cell::word(work, x.0 as usize);
+    let mark = basics::word(work, x.0 as usize);
     if mark == 0 {
         return visit(work, ticket, stop, x, clock);
     }

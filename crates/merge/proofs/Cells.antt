@@ -3,7 +3,7 @@ use mathlib.Core.Path.{_≡_, refl, sym, ap, _∙_, subst}
 use mathlib.Core.Bool.{Bool, true, false, cond}
 use mathlib.Core.List.{List}
 use mathlib.Core.Logic.{inl}
-use Prim.Native.Nat.{ℕ, suc, _+_, _-_, _*_, _≤_, _<_}
+use Prim.Native.Nat.{ℕ, suc, _+_, _*_, _≤_, _<_}
 use native.Mathlib.Omega.{arith}
 use native.Mathlib.Numerals.{add-one}
 use native.Mathlib.Decide.{decLt}
@@ -16,19 +16,19 @@ use Rattle.value.specs.Value.{netAt}
 use Rattle.cell.specs.declared.Record.{Record}
 use Rattle.cell.specs.declared.Cell.{Cell}
 use Rattle.cell.specs.Records.{cellOf, cellRecord}
-use Rattle.netlist.specs.Areas.{wordRecord, storeWords, Within, figuresAt, freeAt, keysAt, keysFrom, replacedAt}
+use Rattle.netlist.specs.inner.Areas.{wordRecord, storeWords, Within, figuresAt, freeAt, keysAt, keysFrom, replacedAt}
 use Rattle.netlist.specs.Netlist.{run}
 use Rattle.netlist.proofs.Frames.{within-none, within-then, within-wider, tabulate-same, record-kept}
 use Rattle.netlist.proofs.Areas.{store-within, stored-other, stored-same}
 use Rattle.netlist.specs.Shape.{visitMut}
 use Rattle.design.specs.Queue.{mapNetNew}
-use Rattle.netlist.specs.Fields.{renamedFields}
-use Rattle.design.specs.Words.{netlistIn, replacedIn}
+use Rattle.netlist.specs.inner.Fields.{renamedFields}
+use Rattle.design.specs.inner.Words.{netlistIn, replacedIn}
 use Rattle.netlist.proofs.Operands.{renamed-cell}
 use Rattle.design.proofs.Words.{bits-length, bit-at}
 use Rattle.numberer.proofs.Records.{cell-sized}
 use Rattle.merge.specs.Merge.{keyOf}
-use Rattle.merge.specs.Words.{keyFields, keyIn, Keys, widthOf}
+use Rattle.merge.specs.inner.Words.{keyFields, keyIn, Keys, widthOf}
 use Rattle.merge.proofs.Keys.{key-fields}
 
 -- the loop of `cell_end`

@@ -6,13 +6,14 @@ use Rattle.value.specs.Value.{eqNet, leNet, driver}
 use Rattle.kinds.specs.Kinds.{sortOf}
 use Rattle.cell.specs.declared.Record.{Record}
 use Rattle.cell.specs.Records.{recordOf, cellOf, cellRecord}
-use Rattle.cell.specs.Tabulate.{tabulate}
+use Rattle.basics.specs.Lists.{tabulate, those, anyOf, joined}
 use Rattle.netlist.specs.Shape.{visit, visitMut, hasEffects}
 use Rattle.netlist.specs.Netlist
-use Rattle.netlist.specs.Netlist.{netlistOf, encode, those, anyOf, joined, sources, outputOf, iterCells, cellDeps}
+use Rattle.netlist.specs.Netlist.{netlistOf, encode, sources, outputOf, iterCells, cellDeps}
 use Rattle.order.specs.Walk.{each, down, walk, walkFrom}
 use Rattle.order.specs.Orders.{iterCellsTopo}
-use Rattle.design.specs.Queue.{unchanged, followed, mapNetNew, applied, didChange, eqRecord, eqCell, seek}
+use Rattle.design.specs.Queue.{unchanged, followed, mapNetNew, applied, didChange, eqRecord, eqCell}
+use Rattle.numberer.specs.Numberer.{seek}
 use Rattle.compact.specs.Compact.{keep, keptSlots, countKept, netMap, compact}
 use Rattle.merge.specs.Merge.{keyOf, findOrInsertAll, mergeCell, mergeCells, merging, merge}
 

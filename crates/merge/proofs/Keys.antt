@@ -12,7 +12,7 @@ use Rattle.cell.specs.declared.Cell.{Cell}
 use Rattle.cell.specs.declared.Cell.the-variants.{Input, Output, Buf, Not, And, Or, Xor, Mux, Aig}
 use Rattle.cell.specs.Records.{recordOf, cellRecord}
 use Rattle.merge.specs.Merge.{keyOf}
-use Rattle.merge.specs.Words.{turned, keyFields}
+use Rattle.merge.specs.inner.Words.{turned, keyFields}
 
 module _ (bit : ℕ) where
   -- two operands of one sort, exchanged or not

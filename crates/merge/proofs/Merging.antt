@@ -10,21 +10,21 @@ use native.Mathlib.Decide.{decLt}
 use lib.ListN.{length, getD}
 use Rattle.cell.specs.declared.Cell.{Cell}
 use Rattle.cell.specs.Records.{cellOf}
-use Rattle.cell.specs.Tabulate.{tabulate}
-use Rattle.cell.proofs.Lists.{tabulate-length, tabulate-at}
-use Rattle.netlist.specs.Areas.{wordRecord, recordsIn, wordsIn, orderAt, Within, figuresAt, freeAt, replacedAt, visitedAt}
+use Rattle.basics.specs.Lists.{tabulate, those}
+use Rattle.basics.proofs.Tables.{tabulate-length, tabulate-at}
+use Rattle.netlist.specs.inner.Areas.{wordRecord, recordsIn, wordsIn, orderAt, Within, figuresAt, freeAt, replacedAt, visitedAt}
 use Rattle.netlist.specs.Shape.{hasEffects}
-use Rattle.netlist.specs.Netlist.{Netlist, netlistOf, cellIn, those}
+use Rattle.netlist.specs.Netlist.{Netlist, netlistOf, cellIn}
 use Rattle.netlist.proofs.Frames.{within-none, within-then, within-wider, words-kept, records-kept}
 use Rattle.order.specs.Orders.{iterCellsTopo}
 use Rattle.design.specs.Queue.{netIn, unchanged, didChange}
-use Rattle.design.specs.Words.{netlistIn, replacedIn, designIn, appliedIn}
+use Rattle.design.specs.inner.Words.{netlistIn, replacedIn, designIn, appliedIn}
 use Rattle.design.proofs.Words.{cells-length, bits-length, cell-at}
-use Rattle.netlist.proofs.Lists.{those-append}
-use Rattle.numberer.specs.Words.{numbererIn}
+use Rattle.basics.proofs.Those.{those-append}
+use Rattle.numberer.specs.inner.Words.{numbererIn}
 use Rattle.numberer.proofs.Inserting.{entered-none, mixed-none}
 use Rattle.merge.specs.Merge.{Merging, mergeCell, mergeCells, merging, merge}
-use Rattle.merge.specs.Words.{Sequenced, mergingIn, Ready, widthOf, Merges, looksFor, loadOf, sum, MergesNext, Ordered, MergesCells, MergesAll, MergesNetlist}
+use Rattle.merge.specs.inner.Words.{Sequenced, mergingIn, Ready, widthOf, Merges, looksFor, loadOf, sum, MergesNext, Ordered, MergesCells, MergesAll, MergesNetlist}
 use Rattle.merge.proofs.Room.{Every, sum-more, order-starts, order-fits, order-short}
 
 -- one cell more

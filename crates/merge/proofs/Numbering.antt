@@ -9,23 +9,24 @@ use Rattle.value.specs.declared.Net.{Net}
 use Rattle.cell.specs.declared.Record.{Record}
 use Rattle.cell.specs.declared.Cell.{Cell}
 use Rattle.cell.specs.Records.{cellOf, cellRecord}
-use Rattle.cell.specs.Tabulate.{tabulate}
+use Rattle.basics.specs.Lists.{tabulate}
 use Rattle.cell.proofs.RoundTrips.{cell-back}
-use Rattle.netlist.specs.Areas.{wordRecord, storeWords, Within, figuresAt, freeAt, keysAt, keysFrom, mixesAt, numbererAt, numbererFrom, replacedAt}
+use Rattle.netlist.specs.inner.Areas.{wordRecord, storeWords, Within, figuresAt, freeAt, keysAt, keysFrom, mixesAt, numbererAt, numbererFrom, replacedAt}
 use Rattle.netlist.specs.Shape.{visitMut}
 use Rattle.netlist.specs.Netlist.{cellIn, outputOf}
 use Rattle.netlist.proofs.Frames.{within-none, within-then, within-wider, tabulate-same, record-kept, records-kept}
-use Rattle.design.specs.declared.Found.{Found}
-use Rattle.design.specs.declared.Found.the-variants.{Nothing, At}
-use Rattle.design.specs.Queue.{mapNetNew, seek}
-use Rattle.design.specs.Words.{netlistIn, replacedIn, designIn}
-use Rattle.numberer.specs.Words.{numbererIn, IsCell, mixOf, Inserts}
+use Rattle.numberer.specs.declared.Found.{Found}
+use Rattle.numberer.specs.declared.Found.the-variants.{Nothing, At}
+use Rattle.design.specs.Queue.{mapNetNew}
+use Rattle.numberer.specs.Numberer.{seek}
+use Rattle.design.specs.inner.Words.{netlistIn, replacedIn, designIn}
+use Rattle.numberer.specs.inner.Words.{numbererIn, IsCell, mixOf, Inserts}
 use Rattle.numberer.proofs.Records.{is-cell}
 use Rattle.numberer.proofs.Inserting.{numberer-stays, entered-stays, mixed-stays, inserts}
 use Rattle.merge.specs.Merge.{Merging, keyOf, findOrInsert, findOrInsertAll, mergeCell}
-use Rattle.merge.specs.Words.{mergingIn, keyIn, keyAt, Ready, Keyed, Keys, Numbers, NumbersAll, widthOf, Merges}
+use Rattle.merge.specs.inner.Words.{mergingIn, keyIn, keyAt, Ready, Keyed, Keys, Numbers, NumbersAll, widthOf, Merges}
 use Rattle.design.proofs.Words.{cell-at}
-use Rattle.design.proofs.Lists.{map-table}
+use Rattle.basics.proofs.Tables.{map-table}
 use Rattle.merge.proofs.Cells.{replaced-stays}
 
 -- the design after a store behind the replaced nets

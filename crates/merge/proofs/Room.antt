@@ -12,15 +12,15 @@ use lib.ListN.{length, getD, set, drop, replicate, List·getD-eq-default}
 use borrow.Author.Tests.{eqb-true, eq-eqb}
 use Rattle.cell.specs.declared.Cell.{Cell}
 use Rattle.cell.specs.declared.Cell.the-variants.{Input, Output, Buf, Not, And, Or, Xor, Mux, Aig}
-use Rattle.cell.specs.Tabulate.{tabulate}
-use Rattle.cell.proofs.Lists.{tabulate-length}
+use Rattle.basics.specs.Lists.{tabulate, slots, those, anyOf, joined}
+use Rattle.basics.proofs.Tables.{tabulate-length}
 use Rattle.netlist.specs.Shape.{visit, isInput, isSource, isOutput, hasEffects}
-use Rattle.netlist.specs.Netlist.{Netlist, cellIn, slots, those, anyOf, joined, sources, startOf, run, outputOf, iterCells, cellDeps}
-use Rattle.netlist.proofs.Lists.{those-length}
+use Rattle.netlist.specs.Netlist.{Netlist, cellIn, sources, startOf, run, outputOf, iterCells, cellDeps}
+use Rattle.basics.proofs.Those.{those-length}
 use Rattle.netlist.proofs.Sources.{source-input}
 use Rattle.order.specs.Walk.{Walk, isVisited, mark, each, down, walk, walkFrom, fresh}
 use Rattle.order.specs.Orders.{emit, iterCellsTopo}
-use Rattle.merge.specs.Words.{Sequenced, widthOf, loadOf, sum}
+use Rattle.merge.specs.inner.Words.{Sequenced, widthOf, loadOf, sum}
 
 -- a property of each element of a list
 unfoldable pub Every : (ℕ → Type 0) → List ℕ → Type 0

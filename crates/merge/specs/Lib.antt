@@ -1,2 +1,2 @@
 pub mod Merge
-pub mod Words
+pub mod inner

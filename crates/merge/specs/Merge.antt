@@ -6,11 +6,13 @@ use Rattle.value.specs.Value.{leNet, leControl}
 use Rattle.cell.specs.declared.Cell.{Cell}
 use Rattle.cell.specs.declared.Cell.the-variants.{Input, Output, Buf, Not, And, Or, Xor, Mux, Aig}
 use Rattle.netlist.specs.Shape.{visitMut, hasEffects}
-use Rattle.netlist.specs.Netlist.{Netlist, cellIn, those, outputOf}
+use Rattle.netlist.specs.Netlist.{Netlist, cellIn, outputOf}
+use Rattle.basics.specs.Lists.{those}
 use Rattle.order.specs.Orders.{iterCellsTopo}
-use Rattle.design.specs.declared.Found.{Found}
-use Rattle.design.specs.declared.Found.the-variants.{Nothing, At}
-use Rattle.design.specs.Queue.{Design, Entry, unchanged, netIn, mapNetNew, replaceNet, applied, didChange, seek}
+use Rattle.numberer.specs.declared.Found.{Found}
+use Rattle.numberer.specs.declared.Found.the-variants.{Nothing, At}
+use Rattle.design.specs.Queue.{Design, unchanged, netIn, mapNetNew, replaceNet, applied, didChange}
+use Rattle.numberer.specs.Numberer.{Entry, seek}
 use Rattle.compact.specs.Compact.{compact}
 
 -- two operands in their order

@@ -1,25 +1,25 @@
 // Merging of equal cells, after generic/src/merge.rs. The keys that were looked for and not found are the numberer's.
 use cell::Record;
-use design::Found;
 use netlist::area;
 use netlist::fields;
+use numberer::Found;
 use value::Slot;
 ghost use mathlib.Core.Path.{_≡_};
 ghost use Prim.Native.Nat.{_+_, _-_, _≤_, _<_};
 ghost use lib.ListN.{length};
 ghost use Rattle.cell.specs.Records.{cellRecord};
-ghost use Rattle.netlist.specs.Areas.{storeWords, keysAt};
-ghost use Rattle.design.specs.Words.{netlistIn};
-ghost use Rattle.merge.specs.Words.{turned, keyFields, keyIn, Ready, Keyed, Keys, Numbers, NumbersAll, Merges, widthOf, loadOf, MergesNext, Sequenced, Ordered, MergesCells, MergesAll, MergesNetlist};
+ghost use Rattle.netlist.specs.inner.Areas.{storeWords, keysAt};
+ghost use Rattle.design.specs.inner.Words.{netlistIn};
+ghost use Rattle.merge.specs.inner.Words.{turned, keyFields, keyIn, Ready, Keyed, Keys, Numbers, NumbersAll, Merges, widthOf, loadOf, MergesNext, Sequenced, Ordered, MergesCells, MergesAll, MergesNetlist};
 
 // Whether a commutative cell's operands are exchanged in its key; its record has nothing in fields that its kind does not use.
 fn is_turned(r: Record) -> bool
     ensures { λ t. ⌜ t ≡ turned r ⌝ }
 {
-    let descends = logic::both(r.flags != 2, !(r.a <= r.b));
-    logic::both(
+    let descends = basics::both(r.flags != 2, !(r.a <= r.b));
+    basics::both(
         kinds::operands_commute(r.kind),
-        logic::either(r.flags == 1, descends),
+        basics::either(r.flags == 1, descends),
     )
 }
 
@@ -30,10 +30,10 @@ fn key_record(bit: u16, r: Record) -> Record
     let turned = is_turned(r);
     Record {
         kind: r.kind,
-        flags: logic::pick8(r.flags == 1, 2, r.flags),
+        flags: basics::pick8(r.flags == 1, 2, r.flags),
         bit,
-        a: logic::pick32(turned, r.b, r.a),
-        b: logic::pick32(turned, r.a, r.b),
+        a: basics::pick32(turned, r.b, r.a),
+        b: basics::pick32(turned, r.a, r.b),
         c: r.c,
     }
 }
@@ -151,7 +151,7 @@ fn merge_cells(work: &mut [u32], n: u32, count: u32)
     let mut k: u32 = 0;
     let mut j: u32 = 0;
     while j < count {
-        let s = cell::word(work, area::ORDER + (j as usize));
+        let s = basics::word(work, area::ORDER + (j as usize));
         k = merge_next(work, n, k, Slot(s));
         j += 1;
     }

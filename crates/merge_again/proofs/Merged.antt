@@ -2,7 +2,7 @@
 use mathlib.Core.Path.{_≡_, refl, sym, ap, ap₂, _∙_, subst}
 use mathlib.Core.Bool.{Bool, true, false, cond, not}
 use mathlib.Core.List.{map-id, List, [], _∷_, _++_, map}
-use Prim.Native.Nat.{ℕ, _+_, _<_}
+use Prim.Native.Nat.{ℕ, _<_}
 use native.Mathlib.Omega.{arith}
 use native.Mathlib.Decide.{decLt}
 use lib.ListN.{length, getD, List·getD-eq-default}
@@ -12,22 +12,22 @@ use Rattle.value.specs.declared.Driver.the-variants as driven
 use Rattle.value.specs.Value.{driver, eqNet}
 use Rattle.value.proofs.Laws.{cell-driver}
 use Rattle.cell.specs.declared.Cell.{Cell}
-use Rattle.cell.specs.Tabulate.{tabulate}
-use Rattle.cell.proofs.Lists.{tabulate-length, tabulate-at}
+use Rattle.basics.specs.Lists.{tabulate, those, anyOf, has, All}
+use Rattle.basics.proofs.Tables.{tabulate-length, tabulate-at}
 use Rattle.netlist.specs.Shape.{visit, visitMut, hasEffects}
-use Rattle.netlist.specs.Netlist.{Netlist, cellIn, those, anyOf}
+use Rattle.netlist.specs.Netlist.{Netlist, cellIn}
 use Rattle.order.specs.Orders.{iterCellsTopo}
-use Rattle.design.specs.declared.Found.the-variants.{Nothing}
-use Rattle.design.specs.Queue.{Design, Entry, unchanged, netIn, drivenTo, mapNetNew, applied, didChange, eqCell, seek}
+use Rattle.numberer.specs.declared.Found.the-variants.{Nothing}
+use Rattle.design.specs.Queue.{Design, unchanged, netIn, drivenTo, mapNetNew, applied, didChange, eqCell}
+use Rattle.numberer.specs.Numberer.{Entry, seek}
 use Rattle.compact.specs.Compact.{compact}
 use Rattle.merge.specs.Merge.{keyOf, Merging, findOrInsert, findOrInsertAll, mergeCell, mergeCells, merging, merge}
-use Rattle.order_laws.specs.Ordered.{has, OnceAfter}
-use Rattle.order_laws.specs.Members.{All}
-use Rattle.order_laws.proofs.Truth.{either, never}
-use Rattle.order_laws.proofs.Members.{has-snoc-same, all-imp, all-every, all-append, any-none, has-snoc-old}
+use Rattle.order_laws.specs.Ordered.{OnceAfter}
+use Rattle.basics.proofs.Truth.{either, never}
+use Rattle.basics.proofs.Members.{has-snoc-same, all-imp, all-every, all-append, any-none, has-snoc-old}
 use Rattle.order_laws.proofs.Queue.{cell-equal, seek-none, mapped-final}
 use Rattle.order_laws.proofs.Sorts.{gate-inside, gate-parts}
-use Rattle.order_laws.proofs.Lists.{map-same}
+use Rattle.basics.proofs.Indices.{map-same}
 use Rattle.kept.proofs.Order.{cells-once}
 use Rattle.normal.proofs.Normal.{lookIn, Normal}
 use Rattle.normal.proofs.Alike.{visit-stays}

@@ -11,8 +11,9 @@ use Rattle.cell.specs.declared.Cell.{Cell}
 use Rattle.netlist.specs.Shape.{visit, visitMut, hasEffects}
 use Rattle.netlist.specs.Netlist.{Netlist, cellIn, startOf, outputOf}
 use Rattle.compact.specs.Compact.{keep, isKept, netMap, compact}
-use Rattle.order_laws.specs.Members.{All, Drives}
-use Rattle.order_laws.proofs.Members.{all-imp, all-both}
+use Rattle.basics.specs.Lists.{All}
+use Rattle.order_laws.specs.Members.{Drives}
+use Rattle.basics.proofs.Members.{all-imp, all-both}
 use Rattle.order_laws.proofs.Operands.{all-visited}
 use Rattle.order_laws.proofs.Sorts.{effects-mapped}
 use Rattle.kept.proofs.Chosen.{count, count-yes, PlaceOf, place-of, SlotAt, slot-at}

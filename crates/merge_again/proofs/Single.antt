@@ -8,14 +8,14 @@ use lib.ListN.{getD, length, drop, List·getD-eq-default}
 use lib.Dec.{ltb, eqb}
 use lib.Seq.{getD-drop}
 use borrow.Author.Tests.{eq-eqb, ltb-true, eqb-true, eqb-false, ltb-false}
-use Rattle.cell.specs.Tabulate.{tabulate}
+use Rattle.basics.specs.Lists.{tabulate, All}
 use Rattle.netlist.specs.Netlist.{Netlist, run, cellIn, outputOf, startOf}
 use Rattle.netlist.specs.Shape.{isInput, visit, hasEffects}
 use Rattle.compact.specs.Compact.{keep, isKept}
-use Rattle.order_laws.specs.Members.{All, Drives}
-use Rattle.order_laws.proofs.Truth.{either, never}
+use Rattle.order_laws.specs.Members.{Drives}
+use Rattle.basics.proofs.Truth.{either, never}
 use Rattle.order_laws.proofs.Sorts.{inputs-by, input-effects}
-use Rattle.order_laws.proofs.Members.{all-imp, all-both}
+use Rattle.basics.proofs.Members.{all-imp, all-both}
 use Rattle.order_laws.proofs.Operands.{input-reads}
 use Rattle.kept.proofs.Sound.{Inner, Inside, Sound, inner, same-by, Bit, output-bits, start-inside, start-zero, start-kind}
 use Rattle.kept.proofs.Keep.{marked-has}

@@ -12,14 +12,14 @@ use Rattle.value.specs.Value.{eqNet, driver}
 use Rattle.value.proofs.Laws.{net-test, cell-driver}
 use Rattle.cell.specs.declared.Cell.{Cell}
 use Rattle.cell.specs.declared.Cell.the-variants.{Input}
-use Rattle.cell.proofs.Lists.{tabulate-length}
+use Rattle.basics.proofs.Tables.{tabulate-length}
 use Rattle.netlist.specs.Shape.{visit, visitMut}
-use Rattle.netlist.specs.Netlist.{Netlist, cellIn, slots, anyOf}
+use Rattle.netlist.specs.Netlist.{Netlist, cellIn}
+use Rattle.basics.specs.Lists.{slots, anyOf, All}
 use Rattle.design.specs.Queue.{netIn}
 use Rattle.compact.specs.Compact.{keep, isKept, keptSlots, countKept, renumbered, netMap, compact}
-use Rattle.order_laws.specs.Members.{All}
-use Rattle.order_laws.proofs.Members.{all-imp, all-tabulate, any-none, those-every}
-use Rattle.order_laws.proofs.Lists.{map-same, map-slots}
+use Rattle.basics.proofs.Members.{all-imp, all-tabulate, any-none, those-every}
+use Rattle.basics.proofs.Indices.{map-same, map-slots}
 use Rattle.kept.proofs.Sound.{Inside, Sound}
 use Rattle.kept.proofs.Compact.{compact-sound}
 use Rattle.normal.proofs.Alike.{visit-stays}

@@ -7,13 +7,13 @@ use native.Mathlib.Omega.{arith}
 use lib.ListN.{length}
 use Rattle.cell.specs.declared.Record.{Record}
 use Rattle.cell.specs.Records.{recordsOf}
-use Rattle.netlist.specs.Areas.{recordsIn, Within, freeAt, visitedAt}
+use Rattle.netlist.specs.inner.Areas.{recordsIn, Within, freeAt, visitedAt}
 use Rattle.netlist.specs.Netlist.{Netlist, netlistOf}
 use Rattle.netlist.proofs.Frames.{within-drop}
 use Rattle.compact.specs.Compact.{compact}
-use Rattle.design.specs.Words.{netlistIn}
+use Rattle.design.specs.inner.Words.{netlistIn}
 use Rattle.merge.specs.Merge.{merging, mergedNetlist, merge}
-use Rattle.merge.specs.Words.{Sequenced, MergesNetlist}
+use Rattle.merge.specs.inner.Words.{Sequenced, MergesNetlist}
 use Rattle.checking.specs.declared.Verdict.{Verdict}
 use Rattle.checking.specs.declared.Verdict.the-variants as verdict
 use Rattle.checking.specs.Refusals.{firstOf}
@@ -23,10 +23,10 @@ use Rattle.calls.specs.declared.Merged.{Merged}
 use Rattle.calls.specs.Answers.{writtenBy, mergedBy}
 use Rattle.calls.specs.Work.{cleared}
 use Rattle.calls.specs.Calls.{room, encoded, mergeBytes, mergeVerdict, mergeAnswer, mergeReply}
-use Rattle.delivery.specs.Delivery.{Delivers, Begins}
+use Rattle.delivery.specs.inner.Delivery.{Delivers, Begins}
 use Rattle.delivery.proofs.Delivering.{delivers-from}
 use Rattle.delivery.proofs.Shell.{Steps, called}
-use Rattle.merge_call.specs.Merge.{withFlag, LoadsMerged, mergedAnswer, Merges}
+use Rattle.merge_call.specs.inner.Merge.{withFlag, LoadsMerged, mergedAnswer, Merges}
 use Rattle.merge_call.proofs.Sequence.{records-sequenced}
 
 pub loaded-sequenced : (t : List ℕ) (n : ℕ) (ws : List ℕ) → recordsIn n ws ≡ recordsOf t → firstOf (netlistStages (recordsOf t)) ≡ verdict.Pass

@@ -12,8 +12,8 @@ use Rattle.cell.specs.declared.Record.{Record}
 use Rattle.kinds.specs.Kinds.{kindOf}
 use Rattle.cell.specs.Records.{recordOf, recordIn}
 use Rattle.netlist.specs.Netlist.{netlistOf}
-use Rattle.design.proofs.Lists.{map-at}
-use Rattle.merge.specs.Words.{Sequenced}
+use Rattle.basics.proofs.Tables.{map-at}
+use Rattle.merge.specs.inner.Words.{Sequenced}
 use Rattle.checking.specs.declared.Verdict.the-variants as verdict
 use Rattle.checking.specs.Refusals.{firstOf}
 use Rattle.checking.specs.Checking.{follows, outOfSequence, bitOutOfSequence, netlistStages}

@@ -1,1 +1,1 @@
-pub mod Merge
+pub mod inner

@@ -8,8 +8,8 @@ ghost use lib.ListN.{length};
 ghost use Rattle.calls.specs.Work.{cleared};
 ghost use Rattle.calls.specs.Answers.{mergedFigures, wordsOf};
 ghost use Rattle.calls.specs.Calls.{mergeAnswer, mergeReply};
-ghost use Rattle.delivery.specs.Delivery.{Passed};
-ghost use Rattle.merge_call.specs.Merge.{withFlag, LoadsMerged, Merges};
+ghost use Rattle.delivery.specs.inner.Delivery.{Passed};
+ghost use Rattle.merge_call.specs.inner.Merge.{withFlag, LoadsMerged, Merges};
 
 // The answer of a netlist written, and the flag.
 fn with_flag(w: Written, changed: bool) -> Merged
@@ -64,7 +64,7 @@ pub fn tell_merged(m: Merged, answer: &mut [u32; 8]) -> u32
         Merged::Accepted(bytes, changed) => delivery::accept(
             answer,
             bytes,
-            logic::pick32(changed, 1, 0),
+            basics::pick32(changed, 1, 0),
         ),
         Merged::Refused(x) => delivery::refuse(answer, x),
     }

@@ -1,22 +1,20 @@
 -- Records and areas after a store, and the loop that loads a ticket. Assumes nothing.
 use mathlib.Core.Path.{_≡_, refl, sym, ap, _∙_, subst}
-use mathlib.Core.Bool.{Bool, true, false, not}
-use mathlib.Core.Logic.{_⊎_, inl, inr}
+use mathlib.Core.Bool.{true}
+use mathlib.Core.Logic.{inl, inr}
 use mathlib.Core.List.{List}
-use Prim.Native.Nat.{ℕ, zero, suc, _+_, _*_, _/_, _%_, _<_, _≤_}
+use Prim.Native.Nat.{ℕ, _+_, _*_, _/_, _<_, _≤_}
 use native.Mathlib.Omega.{arith}
 use native.Mathlib.Nat.{div-div-eq-div-mul}
 use native.Mathlib.Decide.{decLt}
-use lib.Dec.{eqb}
 use lib.ListN.{length, getD, set, length-set}
-use lib.Seq.{getD-set-same, getD-set-other, ext-getD}
+use lib.Seq.{getD-set-same, getD-set-other}
 use Rattle.cell.specs.declared.Record.{Record}
 use Rattle.cell.specs.Bytes.{word16}
-use Rattle.cell.specs.Tabulate.{tabulate}
-use Rattle.cell.specs.Records.{recordOf, recordAt, recordsOf}
-use Rattle.cell.proofs.Lists.{tabulate-length, tabulate-at}
+use Rattle.basics.specs.Lists.{tabulate}
+use Rattle.cell.specs.Records.{recordAt, recordsOf}
 use Rattle.cell.proofs.RoundTrips.{low, high}
-use Rattle.netlist.specs.Areas.{wordRecord, storeWords, recordsIn, wordsIn, marksIn, Within, visitedAt}
+use Rattle.netlist.specs.inner.Areas.{wordRecord, storeWords, recordsIn, Within, visitedAt, numbererFrom, numbererAt, keysFrom, keysAt, areas, inOrder}
 use Rattle.netlist.proofs.Frames.{within-none, within-then, within-wider, within-set, record-kept, tabulate-same}
 
 -- the words after the first, the second and the third store
@@ -135,3 +133,8 @@ module _ (t : List ℕ) (n : ℕ) (ws₀ ws : List ℕ) (s : ℕ) (g : Loading t
 
   pub loading-frame : Within 0 visitedAt ws₀ ws
   loading-frame = g .frame
+
+-- the areas do not meet, and the two ways of counting agree
+pub areas-apart : (inOrder 0 areas ≡ true) × (numbererAt * 4 ≡ numbererFrom) × (keysAt * 4 ≡ keysFrom)
+unfolding inOrder
+areas-apart = (refl, refl, refl)

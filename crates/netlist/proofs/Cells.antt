@@ -1,7 +1,7 @@
 -- The cells of the records in the work slice, and their sorts by kind number. Assumes nothing.
 use mathlib.Core.Path.{_≡_, refl, sym, ap, _∙_}
 use mathlib.Core.List.{List, map}
-use Prim.Native.Nat.{ℕ, _<_, _≤_}
+use Prim.Native.Nat.{ℕ, _*_, _%_, _<_, _≤_}
 use native.Mathlib.Omega.{arith}
 use lib.Dec.{eqb}
 use lib.ListN.{length, getD, length-map, List·getD-map, List·getD-eq-default}
@@ -13,10 +13,10 @@ use Rattle.kinds.proofs.Tests.{past-one}
 use Rattle.cell.specs.declared.Record.{Record}
 use Rattle.cell.specs.declared.Cell.the-variants.{Input}
 use Rattle.cell.specs.Records.{recordOf, cellBy, cellOf}
-use Rattle.cell.proofs.Lists.{tabulate-length, tabulate-at}
+use Rattle.basics.proofs.Tables.{tabulate-length, tabulate-at}
 use Rattle.netlist.specs.Shape.{isInput, isSource, isOutput}
 use Rattle.netlist.specs.Netlist.{cellIn}
-use Rattle.netlist.specs.Areas.{wordRecord, recordsIn}
+use Rattle.netlist.specs.inner.Areas.{wordRecord, recordsIn}
 
 module _ (n : ℕ) (ws : List ℕ) where
   pub cells-length : length (map cellOf (recordsIn n ws)) ≡ n
@@ -58,3 +58,12 @@ source-sort sort.Aig r = refl
 pub source-kind : (r : Record) → isSource (cellOf r) ≡ isSourceSort (sortOf (r .kind))
 unfolding cellOf
 source-kind r = source-sort (sortOf (r .kind)) r
+
+-- an output and a source by the first word of a record
+pub output-word : (ws : List ℕ) (s x : ℕ) → x ≡ getD ws (s * 4) 0 → eqb (x % 256) 2 ≡ isOutput (cellOf (wordRecord ws s))
+unfolding wordRecord
+output-word ws s x e = ap (λ (y : ℕ). eqb (y % 256) 2) e ∙ sym (output-kind (wordRecord ws s))
+
+pub source-word : (ws : List ℕ) (s x : ℕ) → x ≡ getD ws (s * 4) 0 → isSourceSort (sortOf (x % 256)) ≡ isSource (cellOf (wordRecord ws s))
+unfolding wordRecord
+source-word ws s x e = ap (λ (y : ℕ). isSourceSort (sortOf (y % 256))) e ∙ sym (source-kind (wordRecord ws s))

@@ -1,15 +1,15 @@
 -- Words that a call leaves as they were. Assumes nothing.
-use mathlib.Core.Path.{_≡_, refl, sym, ap, _∙_, subst}
-use mathlib.Core.Bool.{Bool, not}
-use mathlib.Core.List.{List, [], _∷_, _++_}
-use mathlib.Core.Logic.{_⊎_, inl, inr, ⊎-elim}
+use mathlib.Core.Path.{_≡_, refl, sym, ap, _∙_}
+use mathlib.Core.Bool.{not}
+use mathlib.Core.List.{List}
+use mathlib.Core.Logic.{_⊎_, inl, ⊎-elim}
 use Prim.Native.Nat.{ℕ, zero, suc, _+_, _-_, _*_, _<_, _≤_}
 use native.Mathlib.Omega.{arith}
 use lib.Dec.{eqb}
-use lib.ListN.{length, getD, set, drop, length-set, length-drop}
-use lib.Seq.{getD-set-same, getD-set-other, getD-drop, ext-getD}
-use Rattle.cell.specs.Tabulate.{tabulate}
-use Rattle.netlist.specs.Areas.{wordRecord, recordsIn, wordsIn, marksIn, Within}
+use lib.ListN.{getD, set, drop, length-set, length-drop}
+use lib.Seq.{getD-set-other, getD-drop, ext-getD}
+use Rattle.basics.specs.Lists.{tabulate}
+use Rattle.netlist.specs.inner.Areas.{wordRecord, recordsIn, wordsIn, marksIn, Within}
 
 pub within-none : (from to : ℕ) (ws : List ℕ) → Within from to ws ws
 within-none from to ws = record { before = λ i h. refl; after = λ i h. refl; same = refl }

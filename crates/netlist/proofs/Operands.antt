@@ -17,7 +17,7 @@ use Rattle.cell.specs.declared.Cell.the-variants.{Input, Output, Buf, Not, And,
 use Rattle.cell.specs.Operands.{fieldOf, isOperand}
 use Rattle.cell.specs.Records.{recordOf, cellBy, cellOf, cellRecord}
 use Rattle.netlist.specs.Shape.{visitMut}
-use Rattle.netlist.specs.Fields.{plainFields, operandAt, withNets, renamedFields, renamedRecord}
+use Rattle.netlist.specs.inner.Fields.{plainFields, operandAt, withNets, renamedFields, renamedRecord}
 
 -- the flags of an and-inverter, bit by bit
 bit-is : (v : ℕ) → v < 2 → cond (eqb v 1) 1 0 ≡ v

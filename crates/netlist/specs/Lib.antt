@@ -1,4 +1,3 @@
 pub mod Shape
 pub mod Netlist
-pub mod Areas
-pub mod Fields
+pub mod inner

@@ -1,7 +1,7 @@
 -- A netlist: the cell of each slot, cut into bits, and the number of that bit in its cell. After the `cells` of `Design`
 -- (netlist/src/design.rs), whose wide cell stands in its first slot, with a `Skip` to there in the others. Assumes nothing: these are definitions.
-use mathlib.Core.Bool.{Bool, true, false, cond}
-use mathlib.Core.List.{List, [], _∷_, _++_, map}
+use mathlib.Core.Bool.{cond}
+use mathlib.Core.List.{List, [], _∷_, map}
 use Prim.Native.Nat.{ℕ, suc, _+_, _-_}
 use lib.Dec.{eqb}
 use lib.ListN.{length, getD, drop}
@@ -13,7 +13,7 @@ use Rattle.cell.specs.declared.Record.{Record}
 use Rattle.cell.specs.declared.Cell.{Cell}
 use Rattle.cell.specs.declared.Cell.the-variants.{Input}
 use Rattle.cell.specs.Records.{cellOf, cellRecord, bytesOf}
-use Rattle.cell.specs.Tabulate.{tabulate}
+use Rattle.basics.specs.Lists.{tabulate, slots, those, anyOf, joined}
 use Rattle.netlist.specs.Shape.{visit}
 
 pub record Netlist : Type 0 where
@@ -27,25 +27,6 @@ netlistOf rs = record { cells = map cellOf rs; bits = map (λ r. r .bit) rs }
 -- the cell of a slot; past the last one an input, which reads nothing
 abbrev pub cellIn : List Cell → ℕ → Cell
 cellIn cs s = getD cs s (Input 0)
-
--- the slots 0, 1, .. n - 1
-abbrev pub slots : ℕ → List ℕ
-slots n = tabulate (λ s. s) n
-
--- those of a list that pass a test
-unfoldable pub those : {A : Type 0} → (A → Bool) → List A → List A
-those p [] = []
-those p (x ∷ xs) = let rest = those p xs in cond (p x) (x ∷ rest) rest
-
--- whether one of a list passes a test
-unfoldable pub anyOf : {A : Type 0} → (A → Bool) → List A → Bool
-anyOf p [] = false
-anyOf p (x ∷ xs) = let rest = anyOf p xs in cond (p x) true rest
-
--- lists one after another
-unfoldable pub joined : {A : Type 0} → List (List A) → List A
-joined [] = []
-joined (xs ∷ xss) = xs ++ joined xss
 
 -- the slot that drives a net, as a list of one; none for a constant
 abbrev pub drivenBy : Driver → List ℕ

@@ -3,7 +3,7 @@ use cell::Record;
 use value::Net;
 ghost use mathlib.Core.Path.{_≡_};
 ghost use Rattle.cell.specs.Records.{cellOf, cellRecord};
-ghost use Rattle.netlist.specs.Fields.{operandAt, withNets};
+ghost use Rattle.netlist.specs.inner.Fields.{operandAt, withNets};
 
 // The record of a record's cell: what its kind does not use is 0.
 pub fn plain(r: Record) -> Record
@@ -11,16 +11,16 @@ pub fn plain(r: Record) -> Record
 {
     let known = kinds::is_known(r.kind);
     Record {
-        kind: logic::pick8(known, r.kind, kinds::BUF),
-        flags: logic::pick8(
+        kind: basics::pick8(known, r.kind, kinds::BUF),
+        flags: basics::pick8(
             kinds::has_flags(r.kind),
             r.flags % 2 + r.flags / 2 % 2 * 2,
             0,
         ),
         bit: r.bit,
-        a: logic::pick32(known, r.a, 0),
-        b: logic::pick32(kinds::uses_b(r.kind), r.b, 0),
-        c: logic::pick32(kinds::net_in_c(r.kind), r.c, 0),
+        a: basics::pick32(known, r.a, 0),
+        b: basics::pick32(kinds::uses_b(r.kind), r.b, 0),
+        c: basics::pick32(kinds::net_in_c(r.kind), r.c, 0),
     }
 }
 
@@ -28,19 +28,19 @@ pub fn plain(r: Record) -> Record
 pub fn net_a(r: Record) -> Net
     ensures { λ x. ⌜ x ≡ operandAt r 1 ⌝ }
 {
-    Net(logic::pick32(kinds::net_in_a(r.kind), r.a, 0))
+    Net(basics::pick32(kinds::net_in_a(r.kind), r.a, 0))
 }
 
 pub fn net_b(r: Record) -> Net
     ensures { λ x. ⌜ x ≡ operandAt r 2 ⌝ }
 {
-    Net(logic::pick32(kinds::net_in_b(r.kind), r.b, 0))
+    Net(basics::pick32(kinds::net_in_b(r.kind), r.b, 0))
 }
 
 pub fn net_c(r: Record) -> Net
     ensures { λ x. ⌜ x ≡ operandAt r 3 ⌝ }
 {
-    Net(logic::pick32(kinds::net_in_c(r.kind), r.c, 0))
+    Net(basics::pick32(kinds::net_in_c(r.kind), r.c, 0))
 }
 
 // The record with other nets where there are any.
@@ -51,8 +51,8 @@ pub fn with_nets(r: Record, a: Net, b: Net, c: Net) -> Record
         kind: r.kind,
         flags: r.flags,
         bit: r.bit,
-        a: logic::pick32(kinds::net_in_a(r.kind), a.0, r.a),
-        b: logic::pick32(kinds::net_in_b(r.kind), b.0, r.b),
-        c: logic::pick32(kinds::net_in_c(r.kind), c.0, r.c),
+        a: basics::pick32(kinds::net_in_a(r.kind), a.0, r.a),
+        b: basics::pick32(kinds::net_in_b(r.kind), b.0, r.b),
+        c: basics::pick32(kinds::net_in_c(r.kind), c.0, r.c),
     }
 }

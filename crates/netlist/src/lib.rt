@@ -6,8 +6,8 @@ ghost use mathlib.Core.Path.{_≡_};
 ghost use Prim.Native.Nat.{_*_, _/_, _≤_, _<_};
 ghost use lib.ListN.{length};
 ghost use Rattle.cell.specs.Records.{cellOf, recordsOf};
-ghost use Rattle.netlist.specs.Shape.{hasEffects};
-ghost use Rattle.netlist.specs.Areas.{wordRecord, storeWords, recordsIn, Within, visitedAt};
+ghost use Rattle.netlist.specs.Shape.{isSource, isOutput, hasEffects};
+ghost use Rattle.netlist.specs.inner.Areas.{wordRecord, storeWords, recordsIn, Within, visitedAt};
 
 pub mod area;
 pub mod fields;
@@ -34,14 +34,14 @@ pub fn record_in(work: &[u32], s: Slot) -> Record
     ensures { λ r. ⌜ r ≡ wordRecord (now (work .entry)) (s .0) ⌝ }
 {
     let i = (s.0 as usize) * 4;
-    let head = cell::word(work, i);
+    let head = basics::word(work, i);
     Record {
         kind: (head % 256) as u8,
         flags: (head / 256 % 256) as u8,
         bit: (head / 65536) as u16,
-        a: cell::word(work, i + 1),
-        b: cell::word(work, i + 2),
-        c: cell::word(work, i + 3),
+        a: basics::word(work, i + 1),
+        b: basics::word(work, i + 2),
+        c: basics::word(work, i + 3),
     }
 }
 
@@ -52,16 +52,29 @@ pub fn cell_in(work: &[u32], s: Slot) -> Cell
     cell::cell_of(record_in(work, s))
 }
 
+// Whether the cell of a slot is a source.
+pub fn is_source(work: &[u32], s: Slot) -> bool
+    ensures { λ r. ⌜ r ≡ isSource (cellOf (wordRecord (now (work .entry)) (s .0))) ⌝ }
+{
+    kinds::is_source((basics::word(work, (s.0 as usize) * 4) % 256) as u8)
+}
+
+pub fn is_output(work: &[u32], s: Slot) -> bool
+    ensures { λ r. ⌜ r ≡ isOutput (cellOf (wordRecord (now (work .entry)) (s .0))) ⌝ }
+{
+    basics::word(work, (s.0 as usize) * 4) % 256 == (kinds::OUTPUT as u32)
+}
+
 // Writes a record into a slot.
 pub fn put_record(work: &mut [u32], s: Slot, r: Record)
     ensures { λ _. ⌜ now (work .exit) ≡ storeWords (now (work .entry)) (s .0) r ⌝ }
 {
     let i = (s.0 as usize) * 4;
     let head = (r.kind as u32) + 256 * ((r.flags as u32) + 256 * (r.bit as u32));
-    cell::put(work, i, head);
-    cell::put(work, i + 1, r.a);
-    cell::put(work, i + 2, r.b);
-    cell::put(work, i + 3, r.c);
+    basics::put(work, i, head);
+    basics::put(work, i + 1, r.a);
+    basics::put(work, i + 2, r.b);
+    basics::put(work, i + 3, r.c);
 }
 
 // Copies the records of a ticket into the slots.

@@ -20,7 +20,8 @@ use Rattle.cell.specs.declared.Cell.the-variants.{Input, Output, Buf, Not, And,
 use Rattle.cell.specs.Records.{cellRecord}
 use Rattle.netlist.specs.Shape.{visit, visitControl, visitMut, combReads}
 use Rattle.design.specs.Queue.{netIn}
-use Rattle.order_laws.specs.Members.{All, Drives}
+use Rattle.basics.specs.Lists.{All}
+use Rattle.order_laws.specs.Members.{Drives}
 use Rattle.order_laws.proofs.Sorts.{kind-kept, ByKind, kindIn, same-sort, sources-by}
 use Rattle.order_laws.proofs.Operands.{all-comb, all-visited, comb-by, visited-all}
 use Rattle.normal.specs.Paired.{exchange, Alike, drivenAs, renumber}

@@ -9,7 +9,7 @@ use Rattle.normalize.specs.declared.Outcome.{Outcome}
 use Rattle.normalize.specs.declared.Outcome.the-variants.{None, Value, Form, Add, NotOf, AddNotOf}
 use Rattle.normalize.specs.Outcomes.{_orElse_, given, fromControl}
 use Rattle.aig.specs.Aig.{differ, xorOf}
-use Rattle.order_laws.proofs.Truth.{and-both, or-either, and-true, or-left, or-right}
+use Rattle.basics.proofs.Truth.{and-both, or-either, and-true, or-left, or-right}
 use Rattle.aig_laws.proofs.Strings.{has-orElse, has-given}
 use Rattle.normal.proofs.Normal.{fires}
 

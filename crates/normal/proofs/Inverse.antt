@@ -7,7 +7,7 @@ use native.Mathlib.Decide.{decLt}
 use lib.Dec.{eqb}
 use borrow.Author.Tests.{eqb-true, eqb-false}
 use Rattle.logic.proofs.Tests.{cond-has}
-use Rattle.order_laws.proofs.Truth.{either}
+use Rattle.basics.proofs.Truth.{either}
 
 pub record Into (p : ℕ → ℕ) (n : ℕ) : Type 0 where
   pub inside : (s : ℕ) → s < n → p s < n

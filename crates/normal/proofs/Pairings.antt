@@ -9,11 +9,11 @@ use lib.ListN.{length, getD}
 use Rattle.value.specs.declared.Net.{Net}
 use Rattle.cell.specs.declared.Cell.{Cell}
 use Rattle.netlist.specs.Shape.{visit, visitMut, isInput, isOutput}
-use Rattle.netlist.specs.Netlist.{Netlist, cellIn, slots, those}
+use Rattle.netlist.specs.Netlist.{Netlist, cellIn}
+use Rattle.basics.specs.Lists.{slots, those, All}
 use Rattle.levels.specs.Evaluate.{inputSlots, outputSlots}
-use Rattle.order_laws.specs.Members.{All}
-use Rattle.order_laws.proofs.Members.{all-imp, all-those, all-slots}
-use Rattle.order_laws.proofs.Lists.{map-same}
+use Rattle.basics.proofs.Members.{all-imp, all-those, all-slots}
+use Rattle.basics.proofs.Indices.{map-same}
 use Rattle.kept.proofs.Sound.{Inside, Sound}
 use Rattle.normal.specs.Paired.{Alike, renumber, PairedBy, Paired}
 use Rattle.normal.proofs.Alike.{visit-same, visit-stays, visit-back, alike-sym, alike-visit, image-image, renumber-stays, renumber-renumber}

@@ -22,7 +22,7 @@ use Rattle.netlist.specs.Netlist.{Netlist, cellIn}
 use Rattle.design.specs.declared.Source.the-variants.{Opaque, Known}
 use Rattle.design.specs.Queue.{netIn, sourceIn}
 use Rattle.compact.specs.Compact.{keep, isKept}
-use Rattle.order_laws.proofs.Members.{all-imp}
+use Rattle.basics.proofs.Members.{all-imp}
 use Rattle.order_laws.proofs.Sorts.{ByKind, effects-by, inputs-by}
 use Rattle.kept.proofs.Sound.{Inside, Sound}
 use Rattle.normal.specs.Paired.{Alike, renumber, PairedBy}

@@ -20,13 +20,13 @@ use Rattle.normalize.specs.declared.Outcome.{Outcome}
 use Rattle.normalize.specs.declared.Outcome.the-variants.{None}
 use Rattle.normalize.specs.Outcomes.{given, eitherWay}
 use Rattle.aig.specs.Aig.{ifNot, ifAig, ifXor, notRule, aigOfNot, andAnd, andWith, aigOfAnd, nandAnd, nandNand, nandWith, aigOfNand, xorAnd, xorWith, aigOfXor, aigOrder, aigRule, andXor, xorXor, xorOrder, xorRule, simpleAigOpt}
-use Rattle.order_laws.specs.Members.{All}
-use Rattle.order_laws.proofs.Members.{all-every}
+use Rattle.basics.specs.Lists.{All}
+use Rattle.basics.proofs.Members.{all-every}
 use Rattle.aig_laws.specs.Arms.{HasAig, as-is, turned, HasXor, Has}
 use Rattle.aig_laws.proofs.Strings.{has-ifNot, has-aig, has-xor, has-turned}
 use Rattle.normal.specs.Paired.{exchange, Alike}
 use Rattle.normal.proofs.Normal.{fires}
-use Rattle.normal.proofs.Applies.{_⊴_, self, none, by, into-left, into-right, _also_, exchanged, into-given, test, both, one-of, from-control-fires, xor-of-fires}
+use Rattle.normal.proofs.Applies.{_⊴_, self, none, by, into-left, into-right, exchanged, into-given, test, both, one-of, from-control-fires, xor-of-fires, _also_}
 
 -- Cells that a rule looks into
 abbrev pub isRuled : Cell → Bool

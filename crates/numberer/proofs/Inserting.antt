@@ -11,13 +11,13 @@ use lib.Seq.{getD-set-same}
 use Rattle.cell.specs.declared.Record.{Record}
 use Rattle.cell.specs.declared.Cell.{Cell}
 use Rattle.cell.specs.Records.{cellRecord}
-use Rattle.cell.specs.Tabulate.{tabulate}
+use Rattle.basics.specs.Lists.{tabulate}
 use Rattle.cell.proofs.RoundTrips.{cell-back}
-use Rattle.netlist.specs.Areas.{wordRecord, storeWords, Within, keysFrom, mixesAt, numbererAt, numbererFrom}
+use Rattle.netlist.specs.inner.Areas.{wordRecord, storeWords, Within, keysFrom, mixesAt, numbererAt, numbererFrom}
 use Rattle.netlist.proofs.Frames.{within-then, within-wider, within-set, tabulate-same, word-kept, record-kept}
 use Rattle.netlist.proofs.Areas.{Sized, store-within, stored-other, stored-same}
 use Rattle.design.specs.Queue.{netIn}
-use Rattle.numberer.specs.Words.{mixOf, entryOf, numbererIn, IsCell, Entered, MixedAt, Mixed, Inserts}
+use Rattle.numberer.specs.inner.Words.{mixOf, entryOf, numbererIn, IsCell, Entered, MixedAt, Mixed, Inserts}
 use Rattle.numberer.proofs.Records.{bit-of, is-cell, cell-sized}
 
 -- a store that reaches neither the first k keys nor their numbers

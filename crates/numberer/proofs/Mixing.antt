@@ -11,11 +11,12 @@ use lib.ListN.{length, getD}
 use borrow.Author.Tests.{eqb-true, eq-eqb}
 use Rattle.cell.specs.declared.Record.{Record}
 use Rattle.cell.specs.Records.{cellOf}
-use Rattle.cell.specs.Tabulate.{tabulate}
-use Rattle.netlist.specs.Areas.{wordRecord, mixesAt, numbererAt}
-use Rattle.design.specs.declared.Found.the-variants.{Nothing}
-use Rattle.design.specs.Queue.{eqRecord, seek}
-use Rattle.numberer.specs.Words.{mixOf, numbererIn, IsCell, Entered, MixedAt, Mixed, Counts}
+use Rattle.basics.specs.Lists.{tabulate}
+use Rattle.netlist.specs.inner.Areas.{wordRecord, mixesAt, numbererAt}
+use Rattle.numberer.specs.declared.Found.the-variants.{Nothing}
+use Rattle.design.specs.Queue.{eqRecord}
+use Rattle.numberer.specs.Numberer.{seek}
+use Rattle.numberer.specs.inner.Words.{mixOf, numbererIn, IsCell, Entered, MixedAt, Mixed, Counts}
 use Rattle.numberer.proofs.Records.{eq-cells}
 use Rattle.numberer.proofs.Seeking.{one-of}
 

@@ -10,7 +10,7 @@ use Rattle.cell.specs.Records.{recordOf, cellOf, cellRecord}
 use Rattle.cell.proofs.RoundTrips.{cell-back}
 use Rattle.netlist.proofs.Areas.{Sized}
 use Rattle.design.specs.Queue.{eqRecord, eqCell}
-use Rattle.numberer.specs.Words.{IsCell}
+use Rattle.numberer.specs.inner.Words.{IsCell}
 
 -- the bit stands by itself
 abbrev withBit : ℕ → Record → Record

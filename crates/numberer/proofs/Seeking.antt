@@ -13,11 +13,12 @@ use Rattle.value.specs.Value.{netOf, slotAt}
 use Rattle.cell.specs.declared.Record.{Record}
 use Rattle.cell.specs.declared.Cell.{Cell}
 use Rattle.cell.specs.Records.{cellOf}
-use Rattle.cell.specs.Tabulate.{tabulate}
-use Rattle.netlist.specs.Areas.{wordRecord, numbererAt}
-use Rattle.design.specs.declared.Found.the-variants.{Nothing, At}
-use Rattle.design.specs.Queue.{Entry, netIn, eqRecord, eqCell, seek}
-use Rattle.numberer.specs.Words.{entryOf, numbererIn, IsCell, Entered}
+use Rattle.basics.specs.Lists.{tabulate}
+use Rattle.netlist.specs.inner.Areas.{wordRecord, numbererAt}
+use Rattle.numberer.specs.declared.Found.the-variants.{Nothing, At}
+use Rattle.numberer.specs.Numberer.{Entry, seek}
+use Rattle.design.specs.Queue.{netIn, eqRecord, eqCell}
+use Rattle.numberer.specs.inner.Words.{entryOf, numbererIn, IsCell, Entered}
 use Rattle.numberer.proofs.Records.{eq-cells}
 
 -- the fields in the order that the code compares them in

@@ -1,7 +1,6 @@
 // The numberer: the map from a cell to the net that holds it, `Numberer` of generic/src/merge.rs and the cache of netlist/src/rewrite.rs.
 // Its entries are keys in an area of the work slice, each as a record whose bit is the slot of the cell.
 use cell::Record;
-use design::Found;
 use netlist::area;
 use value::Net;
 use value::Slot;
@@ -9,16 +8,23 @@ ghost use mathlib.Core.Path.{_≡_};
 ghost use Prim.Native.Nat.{_+_, _≤_, _<_};
 ghost use lib.ListN.{length, set};
 ghost use Rattle.cell.specs.Records.{cellOf};
-ghost use Rattle.netlist.specs.Areas.{wordRecord, storeWords, numbererAt, mixesAt};
-ghost use Rattle.design.specs.Queue.{eqRecord, seek};
-ghost use Rattle.numberer.specs.Words.{mixOf, numbererIn, IsCell, Entered, MixedAt, Mixed, Counts};
+ghost use Rattle.netlist.specs.inner.Areas.{wordRecord, storeWords, numbererAt, mixesAt};
+ghost use Rattle.design.specs.Queue.{eqRecord};
+ghost use Rattle.numberer.specs.Numberer.{seek};
+ghost use Rattle.numberer.specs.inner.Words.{mixOf, numbererIn, IsCell, Entered, MixedAt, Mixed, Counts};
+
+// What a search for a cell gives: the net that holds it.
+pub enum Found {
+    Nothing,
+    At(Net),
+}
 
 fn same_key(x: Record, y: Record) -> bool
     ensures { λ r. ⌜ r ≡ eqRecord x y ⌝ }
 {
     if x.a == y.a {
-        let heads = logic::both(x.kind == y.kind, x.flags == y.flags);
-        return logic::both(logic::both(heads, x.b == y.b), x.c == y.c);
+        let heads = basics::both(x.kind == y.kind, x.flags == y.flags);
+        return basics::both(basics::both(heads, x.b == y.b), x.c == y.c);
     }
     false
 }
@@ -42,7 +48,7 @@ fn count_mix(work: &[u32], k: u32, x: u32) -> u32
     let mut i: usize = 0;
     let mut count: u32 = 0;
     while i < end {
-        count += logic::pick32(work[area::MIXES + i] == x, 1, 0);
+        count += basics::pick32(work[area::MIXES + i] == x, 1, 0);
         i += 1;
     }
     count
@@ -55,7 +61,7 @@ fn same_at(work: &[u32], i: u32, key: Record, x: u32) -> bool
     requires { ⌜ x ≡ mixOf key ⌝ }
     ensures { λ r. ⌜ r ≡ eqRecord (wordRecord (now (work .entry)) (numbererAt + i)) key ⌝ }
 {
-    if cell::word(work, area::MIXES + (i as usize)) == x {
+    if basics::word(work, area::MIXES + (i as usize)) == x {
         return same_key(netlist::record_in(work, Slot(area::NUMBERER + i)), key);
     }
     false
@@ -105,5 +111,5 @@ pub fn insert(work: &mut [u32], k: u32, key: Record)
     ensures { λ _. ⌜ now (work .exit) ≡ set (storeWords (now (work .entry)) (numbererAt + k) key) (mixesAt + k) (mixOf key) ⌝ }
 {
     netlist::put_record(work, Slot(area::NUMBERER + k), key);
-    cell::put(work, area::MIXES + (k as usize), mix(key));
+    basics::put(work, area::MIXES + (k as usize), mix(key));
 }

@@ -2,13 +2,11 @@
 use mathlib.Core.Path.{_≡_, refl, sym, ap, _∙_, subst}
 use mathlib.Core.Bool.{Bool, true, false, cond, not}
 use mathlib.Core.List.{List, [], _∷_, _++_, map, reverse, reverse-append, append-assoc, append-nil}
-use Prim.Native.Nat.{ℕ, _+_, _*_, _%_, _≤_, _<_}
+use Prim.Native.Nat.{ℕ, _+_, _≤_, _<_}
 use native.Mathlib.Omega.{arith}
 use native.Mathlib.Numerals.{add-one}
 use native.Mathlib.Decide.{decLt}
-use lib.Dec.{eqb}
-use lib.ListN.{length, getD, set, length-map, List·getD-map, List·getD-eq-default}
-use borrow.Author.Tests.{eqb-true, ne-eqb}
+use lib.ListN.{length, set}
 use borrow.Author.Count.{below-more}
 use mir.Syntax.{w32}
 use mir.Val.{Fits}
@@ -16,38 +14,26 @@ use Rattle.value.specs.declared.Net.{Net}
 use Rattle.value.specs.declared.Slot.{Slot}
 use Rattle.value.specs.declared.Driver.{Driver}
 use Rattle.value.specs.declared.Driver.the-variants as driven
-use Rattle.value.specs.declared.ControlNet.{ControlNet}
-use Rattle.value.specs.Value.{ZERO, net, driver}
+use Rattle.value.specs.Value.{driver}
 use Rattle.logic.specs.declared.Trit.{Trit}
 use Rattle.cell.specs.declared.Record.{Record}
 use Rattle.cell.specs.declared.Cell.{Cell}
 use Rattle.cell.specs.declared.Cell.the-variants.{Input, Output, Buf, Not, And, Or, Xor, Mux, Aig}
-use Rattle.cell.specs.Tabulate.{tabulate}
-use Rattle.cell.specs.Records.{recordOf, cellOf}
-use Rattle.cell.proofs.Lists.{tabulate-length, tabulate-at}
-use Rattle.kinds.specs.Kinds.{sortOf, isSourceSort}
-use Rattle.netlist.proofs.Lists.{those-append}
-use Rattle.netlist.proofs.Cells.{cells-length, cell-at, cell-past, source-kind, output-kind}
-use Rattle.netlist.specs.Shape.{visit, isSource, isOutput}
-use Rattle.netlist.specs.Netlist.{cellIn, slots, those, joined, drivenBy, sources}
-use Rattle.netlist.specs.Areas.{wordRecord, recordsIn, wordsIn, orderAt, visitedAt}
+use Rattle.basics.specs.Lists.{tabulate, slots, those, joined}
+use Rattle.cell.specs.Records.{cellOf}
+use Rattle.basics.proofs.Those.{those-append}
+use Rattle.netlist.proofs.Cells.{cells-length, cell-at, cell-past}
+use Rattle.netlist.specs.Shape.{visit, isSource}
+use Rattle.netlist.specs.Netlist.{cellIn, drivenBy, sources}
+use Rattle.netlist.specs.inner.Areas.{wordRecord, recordsIn, wordsIn, orderAt, visitedAt}
 use Rattle.order.specs.declared.Operands.{Operands}
 use Rattle.order.specs.Walk.{Walk, each, walkFrom, fresh}
 use Rattle.order.specs.Orders.{bitDeps, topoSort}
-use Rattle.order.specs.Code.{walkOf, visitedIn, bitsBy, Ready, Walks, Clears, Sorts}
-use Rattle.order.specs.Descent.{operandsOf, bitsOf, operandBits}
+use Rattle.order.specs.inner.Code.{walkOf, visitedIn, bitsBy, Ready, Walks, Clears, Sorts}
+use Rattle.order.specs.inner.Descent.{operandsOf, bitsOf, operandBits}
 use Rattle.order.proofs.Walks.{walk-visited}
 use Rattle.order.proofs.Words.{mark-past, new-below}
 use Rattle.order.proofs.Walking.{visited-of, walks-none, walks-then, walks-ready, walks-records, marked-records, pushed-next, pushed, walks-total, walks-grown, walks-there, none-unvisited, cleared-ready, cleared-unvisited, cleared-walked, cleared-then}
-
--- an output and a source by the first word of a record
-pub output-word : (ws : List ℕ) (s x : ℕ) → x ≡ getD ws (s * 4) 0 → eqb (x % 256) 2 ≡ isOutput (cellOf (wordRecord ws s))
-unfolding wordRecord
-output-word ws s x e = ap (λ (y : ℕ). eqb (y % 256) 2) e ∙ sym (output-kind (wordRecord ws s))
-
-pub source-word : (ws : List ℕ) (s x : ℕ) → x ≡ getD ws (s * 4) 0 → isSourceSort (sortOf (x % 256)) ≡ isSource (cellOf (wordRecord ws s))
-unfolding wordRecord
-source-word ws s x e = ap (λ (y : ℕ). isSourceSort (sortOf (y % 256))) e ∙ sym (source-kind (wordRecord ws s))
 
 -- at most one passes
 driven-reverse : (p : ℕ → Bool) (d : Driver) → reverse (those p (drivenBy d)) ≡ those p (drivenBy d)

@@ -11,16 +11,16 @@ use borrow.Author.Tests.{leb-true, le-leb, lt-leb}
 use mir.Syntax.{w32}
 use mir.Val.{Fits}
 use Rattle.cell.specs.declared.Record.{Record}
-use Rattle.cell.specs.Tabulate.{tabulate}
+use Rattle.basics.specs.Lists.{tabulate, slots, those, anyOf}
 use Rattle.cell.specs.Records.{cellOf}
-use Rattle.netlist.specs.Netlist.{netlistOf, cellDeps, slots, those, anyOf, outputOf}
-use Rattle.netlist.specs.Areas.{recordsIn, orderAt, visitedAt}
+use Rattle.netlist.specs.Netlist.{netlistOf, cellDeps, outputOf}
+use Rattle.netlist.specs.inner.Areas.{recordsIn, orderAt, visitedAt}
 use Rattle.order.specs.Walk.{Walk, each, walk}
-use Rattle.order.specs.Code.{walkOf, visitedIn, unvisitedIn, cellsBy, Ready, Walks}
-use Rattle.order.specs.Descent.{bitsIn, readBy, readUpTo, depsFrom, Lowest}
+use Rattle.order.specs.inner.Code.{walkOf, visitedIn, unvisitedIn, cellsBy, Ready, Walks}
+use Rattle.order.specs.inner.Descent.{bitsIn, readBy, readUpTo, depsFrom, Lowest}
 use Rattle.order.proofs.Walks.{each-append, walk-visited}
 use Rattle.order.proofs.Walking.{visited-of, walks-then, walks-records, walks-passed, walks-less, pushed-next, pushed}
-use Rattle.netlist.proofs.Lists.{those-append}
+use Rattle.basics.proofs.Those.{those-append}
 use Rattle.netlist.proofs.Cells.{cells-length}
 
 -- the slots that pass a test

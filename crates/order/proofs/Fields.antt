@@ -11,9 +11,9 @@ use Rattle.kinds.specs.Kinds.{sortOf, kindTable, kindOf, useOf, isOperandUse}
 use Rattle.cell.specs.declared.Record.{Record}
 use Rattle.cell.specs.Operands.{fieldOf, isOperand}
 use Rattle.cell.specs.Records.{cellBy, cellOf}
-use Rattle.netlist.specs.Fields.{operandAt}
+use Rattle.netlist.specs.inner.Fields.{operandAt}
 use Rattle.order.specs.declared.Operands.{Operands}
-use Rattle.order.specs.Descent.{operandsOf, fieldOperands}
+use Rattle.order.specs.inner.Descent.{operandsOf, fieldOperands}
 
 -- the net of a control net
 plain-net : (x : Net) (b : Bool) → x ≡ net (fromNetInvert x b)

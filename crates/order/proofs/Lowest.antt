@@ -17,15 +17,15 @@ use Rattle.value.specs.Value.{driver}
 use Rattle.logic.specs.declared.Trit.{Trit}
 use Rattle.cell.specs.declared.Record.{Record}
 use Rattle.cell.specs.declared.Cell.{Cell}
-use Rattle.cell.specs.Tabulate.{tabulate}
+use Rattle.basics.specs.Lists.{tabulate, anyOf, joined}
 use Rattle.cell.specs.Records.{recordOf, cellOf}
-use Rattle.cell.proofs.Lists.{tabulate-length, tabulate-at}
+use Rattle.basics.proofs.Tables.{tabulate-length, tabulate-at}
 use Rattle.netlist.specs.Shape.{visit}
-use Rattle.netlist.specs.Netlist.{netlistOf, cellIn, anyOf, joined, drivenBy, sources, startOf, run}
-use Rattle.netlist.specs.Areas.{wordRecord, recordsIn}
+use Rattle.netlist.specs.Netlist.{netlistOf, cellIn, drivenBy, sources, startOf, run}
+use Rattle.netlist.specs.inner.Areas.{wordRecord, recordsIn}
 use Rattle.order.specs.declared.Operands.{Operands}
-use Rattle.order.specs.Code.{visitedIn}
-use Rattle.order.specs.Descent.{operandsOf, bitsIn, startsOf, bitReads, readUpTo, readBy, Lowest, Lowers}
+use Rattle.order.specs.inner.Code.{visitedIn}
+use Rattle.order.specs.inner.Descent.{operandsOf, bitsIn, startsOf, bitReads, readUpTo, readBy, Lowest, Lowers}
 use Rattle.netlist.proofs.Cells.{cell-at}
 use Rattle.order.proofs.Bits.{sources-operands}
 

@@ -1,8 +1,8 @@
 -- The parts of the cell order: sources, then the walk from the cells that are no outputs, then outputs. Assumes nothing.
 use mathlib.Core.Path.{_≡_, refl, sym, ap, _∙_, subst}
-use mathlib.Core.Bool.{Bool, true, false, cond, not}
+use mathlib.Core.Bool.{Bool, true, false, not}
 use mathlib.Core.List.{List, [], _∷_, _++_, map, append-assoc, append-nil}
-use Prim.Native.Nat.{ℕ, suc, _+_, _≤_, _<_}
+use Prim.Native.Nat.{ℕ, _+_, _≤_, _<_}
 use native.Mathlib.Omega.{arith}
 use native.Mathlib.Numerals.{add-one}
 use lib.Dec.{eqb}
@@ -11,22 +11,22 @@ use lib.Seq.{getD-set-other}
 use borrow.Author.Tests.{eq-eqb, ne-eqb}
 use Rattle.cell.specs.declared.Record.{Record}
 use Rattle.cell.specs.declared.Cell.{Cell}
-use Rattle.cell.specs.Tabulate.{tabulate}
+use Rattle.basics.specs.Lists.{tabulate, slots, those}
 use Rattle.cell.specs.Records.{cellOf}
-use Rattle.cell.proofs.Lists.{tabulate-length}
+use Rattle.basics.proofs.Tables.{tabulate-length}
 use Rattle.netlist.specs.Shape.{isSource, isOutput}
-use Rattle.netlist.specs.Netlist.{netlistOf, cellIn, slots, those, iterCells}
-use Rattle.netlist.specs.Areas.{wordRecord, recordsIn, wordsIn, Within, visitedAt, orderAt, replacedAt}
+use Rattle.netlist.specs.Netlist.{netlistOf, cellIn, iterCells}
+use Rattle.netlist.specs.inner.Areas.{wordRecord, recordsIn, wordsIn, Within, visitedAt, orderAt, replacedAt}
 use Rattle.netlist.proofs.Frames.{within-none, within-then, within-wider, records-kept}
 use Rattle.order.specs.Walk.{Walk, isVisited, push, each, walk, walkFrom, fresh, unvisited}
 use Rattle.order.specs.Orders.{emit, iterCellsTopo}
-use Rattle.order.specs.Code.{walkOf, visitedIn, unvisitedIn, cellsBy, Ready, Walks, Clears, SortsCells}
-use Rattle.order.specs.Descent.{bitsIn}
-use Rattle.order.specs.Starts.{startsThat, notOutput, Emits, PutsSources, Free, Appends}
+use Rattle.order.specs.inner.Code.{walkOf, visitedIn, unvisitedIn, cellsBy, Ready, Walks, Clears, SortsCells}
+use Rattle.order.specs.inner.Descent.{bitsIn}
+use Rattle.order.specs.inner.Starts.{startsThat, notOutput, Emits, PutsSources, Free, Appends}
 use Rattle.order.proofs.Walks.{count-set, each-append}
 use Rattle.order.proofs.Words.{new-below, order-frame, words-push, walk-pushed}
 use Rattle.order.proofs.Walking.{visited-of, unvisited-of, walks-none, walks-then, walks-ready, walks-records, walks-total, marked, marked-frame, marked-ready, cleared-walk, cleared-unvisited, cleared-records, cleared-then}
-use Rattle.netlist.proofs.Lists.{those-append, those-length}
+use Rattle.basics.proofs.Those.{those-append, those-length}
 use Rattle.netlist.proofs.Cells.{cell-at, cells-length}
 use Rattle.order.proofs.Lowest.{bits-length}
 use Rattle.order.proofs.Cells.{one-taken, one-left}

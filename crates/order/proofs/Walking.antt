@@ -11,12 +11,12 @@ use mir.Syntax.{w32}
 use mir.Val.{Fits}
 use borrow.Author.Needs.{fits-under}
 use Rattle.cell.specs.declared.Record.{Record}
-use Rattle.cell.specs.Tabulate.{tabulate}
-use Rattle.cell.proofs.Lists.{tabulate-length}
-use Rattle.netlist.specs.Areas.{recordsIn, wordsIn, marksIn, Within, visitedAt, orderAt, replacedAt}
+use Rattle.basics.specs.Lists.{tabulate}
+use Rattle.basics.proofs.Tables.{tabulate-length}
+use Rattle.netlist.specs.inner.Areas.{recordsIn, wordsIn, marksIn, Within, visitedAt, orderAt, replacedAt}
 use Rattle.netlist.proofs.Frames.{within-none, within-then, within-wider, records-kept}
 use Rattle.order.specs.Walk.{Walk, isVisited, mark, each, walk, walkFrom, countFalse, unvisited, fresh}
-use Rattle.order.specs.Code.{walkOf, visitedIn, unvisitedIn, Ready, Walks, Clears}
+use Rattle.order.specs.inner.Code.{walkOf, visitedIn, unvisitedIn, Ready, Walks, Clears}
 use Rattle.order.proofs.Walks.{count-set, all-visited, each-append, Keeps, items-keep, walk-there, walk-less, walk-visited, walk-down}
 use Rattle.order.proofs.Words.{mark-past, new-below, marks-frame, walk-marked, order-frame, walk-pushed}
 

@@ -11,12 +11,12 @@ use lib.ListN.{length, getD, set, replicate, length-set, length-replicate, getD-
 use lib.Seq.{getD-set-same, getD-set-other, ext-getD}
 use borrow.Author.Count.{below-more}
 use borrow.Author.Tests.{eqb-true, eqb-false}
-use Rattle.cell.specs.Tabulate.{tabulate}
-use Rattle.cell.proofs.Lists.{tabulate-length, tabulate-at}
-use Rattle.netlist.specs.Areas.{wordsIn, marksIn, Within, visitedAt, orderAt, replacedAt}
+use Rattle.basics.specs.Lists.{tabulate}
+use Rattle.basics.proofs.Tables.{tabulate-length, tabulate-at}
+use Rattle.netlist.specs.inner.Areas.{wordsIn, marksIn, Within, visitedAt, orderAt, replacedAt}
 use Rattle.netlist.proofs.Frames.{within-none, within-then, within-set, words-kept, marks-kept, tabulate-same}
 use Rattle.order.specs.Walk.{mark, push}
-use Rattle.order.specs.Code.{walkOf, visitedIn, Clears}
+use Rattle.order.specs.inner.Code.{walkOf, visitedIn, Clears}
 use Rattle.order.proofs.Walks.{inside}
 
 pub tabulate-replicate : {A : Type 0} (n : ℕ) (v : A) → tabulate (λ i. v) n ≡ replicate n v

@@ -1,5 +1,3 @@
 pub mod Walk
 pub mod Orders
-pub mod Code
-pub mod Descent
-pub mod Starts
+pub mod inner

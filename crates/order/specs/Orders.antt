@@ -1,11 +1,12 @@
 -- The two orders of netlist/src/design.rs. Assumes nothing: these are definitions.
 use mathlib.Core.Bool.{not}
-use mathlib.Core.List.{List, [], _∷_, _++_, reverse}
+use mathlib.Core.List.{List, _++_, reverse}
 use Prim.Native.Nat.{ℕ}
 use lib.ListN.{length}
 use Rattle.cell.specs.declared.Cell.{Cell}
 use Rattle.netlist.specs.Shape.{visit, isSource, isOutput}
-use Rattle.netlist.specs.Netlist.{Netlist, cellIn, slots, those, sources, iterCells, cellDeps}
+use Rattle.netlist.specs.Netlist.{Netlist, cellIn, sources, iterCells, cellDeps}
+use Rattle.basics.specs.Lists.{slots, those}
 use Rattle.order.specs.Walk.{Walk, mark, push, each, walkFrom, fresh}
 
 -- `get_deps` of `Design::topo_sort`, with `is_comb_edge`: the bits that a bit reads, sources left out, in the order of the fields. The order

@@ -12,11 +12,12 @@ ghost use Prim.Native.Nat.{_+_, _≤_, _<_};
 ghost use lib.ListN.{length, getD};
 ghost use Rattle.cell.specs.Records.{cellOf};
 ghost use Rattle.netlist.specs.Shape.{isSource, isOutput};
-ghost use Rattle.netlist.specs.Netlist.{startOf, slots};
-ghost use Rattle.netlist.specs.Areas.{wordRecord, recordsIn};
-ghost use Rattle.order.specs.Code.{Ready, Walks, Clears, Sorts, SortsCells, visitedIn, bitsBy, cellsBy};
-ghost use Rattle.order.specs.Descent.{operandsOf, bitsOf, operandBits, bitsIn, startsOf, bitReads, readBy, depsFrom, Lowest, Lowers};
-ghost use Rattle.order.specs.Starts.{startsThat, notOutput, Emits, PutsSources, Free, Appends};
+ghost use Rattle.netlist.specs.Netlist.{startOf};
+ghost use Rattle.basics.specs.Lists.{slots};
+ghost use Rattle.netlist.specs.inner.Areas.{wordRecord, recordsIn};
+ghost use Rattle.order.specs.inner.Code.{Ready, Walks, Clears, Sorts, SortsCells, visitedIn, bitsBy, cellsBy};
+ghost use Rattle.order.specs.inner.Descent.{operandsOf, bitsOf, operandBits, bitsIn, startsOf, bitReads, readBy, depsFrom, Lowest, Lowers};
+ghost use Rattle.order.specs.inner.Starts.{startsThat, notOutput, Emits, PutsSources, Free, Appends};
 
 // The nets that a cell reads, by field; a constant where there is none.
 struct Operands(Net, Net, Net);
@@ -29,25 +30,12 @@ fn operands_at(work: &[u32], s: Slot) -> Operands
     Operands(fields::net_a(r), fields::net_b(r), fields::net_c(r))
 }
 
-// Whether the cell of a slot is a source.
-pub fn is_source(work: &[u32], s: Slot) -> bool
-    ensures { λ r. ⌜ r ≡ isSource (cellOf (wordRecord (now (work .entry)) (s .0))) ⌝ }
-{
-    kinds::is_source((cell::word(work, (s.0 as usize) * 4) % 256) as u8)
-}
-
-pub fn is_output(work: &[u32], s: Slot) -> bool
-    ensures { λ r. ⌜ r ≡ isOutput (cellOf (wordRecord (now (work .entry)) (s .0))) ⌝ }
-{
-    cell::word(work, (s.0 as usize) * 4) % 256 == (kinds::OUTPUT as u32)
-}
-
 // Whether an item was visited; what is no item counts as visited.
 fn is_visited(work: &[u32], n: u32, s: Slot) -> bool
     ensures { λ r. ⌜ r ≡ visitedIn n (now (work .entry)) (s .0) ⌝ }
 {
     if s.0 < n {
-        return cell::word(work, area::VISITED + (s.0 as usize)) != 0;
+        return basics::word(work, area::VISITED + (s.0 as usize)) != 0;
     }
     true
 }
@@ -60,7 +48,7 @@ pub fn clear_marks(work: &mut [u32], n: u32)
 {
     let mut i: u32 = 0;
     while i < n {
-        cell::put(work, area::VISITED + (i as usize), 0);
+        basics::put(work, area::VISITED + (i as usize), 0);
         i += 1;
     }
 }
@@ -83,9 +71,9 @@ fn visit_bit(work: &mut [u32], n: u32, s: Slot, count: u32) -> u32
     ensures { λ r. ⌜ Walks bitsBy (s .0 ∷ []) n count (now (work .entry)) (now (work .exit)) r ⌝ }
 {
     let reads = operands_at(work, s);
-    cell::put(work, area::VISITED + (s.0 as usize), 1);
+    basics::put(work, area::VISITED + (s.0 as usize), 1);
     let c = walk_operands(work, n, reads, count);
-    cell::put(work, area::ORDER + (c as usize), s.0);
+    basics::put(work, area::ORDER + (c as usize), s.0);
     c + 1
 }
 
@@ -107,7 +95,7 @@ fn walk_net(work: &mut [u32], n: u32, x: Net, count: u32) -> u32
     match x.as_cell_index() {
         Driver::Const(_) => count,
         Driver::Cell(s) => {
-            if is_source(work, s) {
+            if netlist::is_source(work, s) {
                 return count;
             }
             walk_bit(work, n, s, count)
@@ -136,7 +124,7 @@ pub fn bit_of(work: &[u32], n: u32, s: Slot) -> u32
     ensures { λ r. ⌜ r ≡ getD (bitsIn (recordsIn n (now (work .entry)))) (s .0) 0 ⌝ }
 {
     if s.0 < n {
-        return cell::word(work, (s.0 as usize) * 4) / 65536;
+        return basics::word(work, (s.0 as usize) * 4) / 65536;
     }
     0
 }
@@ -223,9 +211,9 @@ fn visit_cell(work: &mut [u32], n: u32, s: Slot, count: u32) -> u32
     requires { ⌜ visitedIn n (now work) (s .0) ≡ false ⌝ }
     ensures { λ r. ⌜ Walks cellsBy (s .0 ∷ []) n count (now (work .entry)) (now (work .exit)) r ⌝ }
 {
-    cell::put(work, area::VISITED + (s.0 as usize), 1);
+    basics::put(work, area::VISITED + (s.0 as usize), 1);
     let c = walk_deps(work, n, s, 0, count);
-    cell::put(work, area::ORDER + (c as usize), s.0);
+    basics::put(work, area::ORDER + (c as usize), s.0);
     c + 1
 }
 
@@ -252,9 +240,9 @@ fn put_source(work: &mut [u32], n: u32, s: Slot, count: u32) -> u32
     if bit_of(work, n, s) != 0 {
         return count;
     }
-    if is_source(work, s) {
-        cell::put(work, area::VISITED + (s.0 as usize), 1);
-        cell::put(work, area::ORDER + (count as usize), s.0);
+    if netlist::is_source(work, s) {
+        basics::put(work, area::VISITED + (s.0 as usize), 1);
+        basics::put(work, area::ORDER + (count as usize), s.0);
         return count + 1;
     }
     count
@@ -284,7 +272,7 @@ fn walk_start(work: &mut [u32], n: u32, s: Slot, count: u32) -> u32
     if bit_of(work, n, s) != 0 {
         return count;
     }
-    if is_output(work, s) {
+    if netlist::is_output(work, s) {
         return count;
     }
     walk_cell(work, n, s, count)
@@ -312,8 +300,8 @@ fn put_output(work: &mut [u32], n: u32, s: Slot, count: u32) -> u32
     if bit_of(work, n, s) != 0 {
         return count;
     }
-    if is_output(work, s) {
-        cell::put(work, area::ORDER + (count as usize), s.0);
+    if netlist::is_output(work, s) {
+        basics::put(work, area::ORDER + (count as usize), s.0);
         return count + 1;
     }
     count

@@ -3,7 +3,7 @@
 use mathlib.Core.Path.{_≡_, sym, ap, ap₂, _∙_, subst}
 use mathlib.Core.Bool.{true, false, not, _&&_}
 use mathlib.Core.List.{List, map}
-use mathlib.Core.Logic.{_⊎_, ⊎-elim}
+use mathlib.Core.Logic.{⊎-elim}
 use Prim.Native.Nat.{ℕ, _<_}
 use native.Mathlib.Omega.{arith}
 use lib.Dec.{eqb, ltb}
@@ -26,9 +26,10 @@ use Rattle.checking.proofs.Groups.{kind-exactly, field-exactly, bit-exactly, op
 use Rattle.netlist.specs.Shape.{visit, combReads, isOutput}
 use Rattle.netlist.specs.Netlist.{cellIn}
 use Rattle.netlist.proofs.Cells.{output-kind}
-use Rattle.order_laws.specs.Members.{All, Drives, Wired}
-use Rattle.order_laws.proofs.Truth.{neither}
-use Rattle.order_laws.proofs.Lists.{getD-mapped}
+use Rattle.basics.specs.Lists.{All}
+use Rattle.order_laws.specs.Members.{Drives, Wired}
+use Rattle.basics.proofs.Truth.{neither}
+use Rattle.basics.proofs.Indices.{getD-mapped}
 use Rattle.order_laws.proofs.Operands.{comb-by}
 use Rattle.order_laws.proofs.Edges.{operand-field, other-edge, operands-by}
 

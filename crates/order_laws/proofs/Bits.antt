@@ -12,12 +12,13 @@ use Rattle.value.specs.declared.Net.{Net}
 use Rattle.cell.specs.declared.Cell.{Cell}
 use Rattle.cell.specs.declared.Cell.the-variants.{Input}
 use Rattle.netlist.specs.Shape.{visit, isSource, combReads}
-use Rattle.netlist.specs.Netlist.{cellIn, slots, sources}
+use Rattle.netlist.specs.Netlist.{cellIn, sources}
+use Rattle.basics.specs.Lists.{slots, has, All}
 use Rattle.order.specs.Orders.{bitDeps, topoSort}
-use Rattle.order_laws.specs.Ordered.{has, FedAfter, Each}
-use Rattle.order_laws.specs.Members.{All, Drives}
-use Rattle.order_laws.proofs.Truth.{either, and-both}
-use Rattle.order_laws.proofs.Members.{has-slots, has-passing, has-those, those-has}
+use Rattle.order_laws.specs.Ordered.{FedAfter, Each}
+use Rattle.order_laws.specs.Members.{Drives}
+use Rattle.basics.proofs.Truth.{either, and-both}
+use Rattle.basics.proofs.Members.{has-slots, has-passing, has-those, those-has}
 use Rattle.order_laws.proofs.Walks.{walk-each, walk-ordered}
 use Rattle.order_laws.proofs.Operands.{all-sources, all-comb, input-reads, sources-all}
 use Rattle.order_laws.proofs.Sorts.{other-inside}

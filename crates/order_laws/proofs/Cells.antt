@@ -2,21 +2,20 @@
 use mathlib.Core.Path.{_≡_, refl, sym, ap, _∙_, subst}
 use mathlib.Core.Bool.{Bool, true, false, cond, not, _&&_, _||_, true≢false, false≢true}
 use mathlib.Core.List.{List, [], _∷_, _++_, append-assoc, append-nil}
-use Prim.Native.Nat.{ℕ, zero, suc, _+_, _<_}
+use Prim.Native.Nat.{ℕ, zero, suc, _<_}
 use native.Mathlib.Omega.{arith}
 use lib.Dec.{eqb}
 use lib.ListN.{length, getD}
 use lib.Seq.{getD-set-other}
-use Rattle.cell.specs.Tabulate.{tabulate}
+use Rattle.basics.specs.Lists.{tabulate, slots, those, has, All}
 use Rattle.netlist.specs.Shape.{isSource, isOutput}
-use Rattle.netlist.specs.Netlist.{Netlist, cellIn, slots, those, iterCells, cellDeps}
+use Rattle.netlist.specs.Netlist.{Netlist, cellIn, iterCells, cellDeps}
 use Rattle.order.specs.Walk.{Walk, isVisited, mark, each, walk, fresh, walkFrom}
 use Rattle.order.specs.Orders.{emit, iterCellsTopo}
-use Rattle.order_laws.specs.Ordered.{has, OnceAfter}
-use Rattle.order_laws.specs.Members.{All}
-use Rattle.order_laws.proofs.Truth.{either, never, or-left, or-right, or-none, and-both}
-use Rattle.order_laws.proofs.Members.{all-has, has-first, has-later, has-append, has-snoc-same, has-snoc-other, has-snoc-old, slots-small, has-those, those-has}
-use Rattle.order_laws.proofs.Lists.{getD-any, getD-same}
+use Rattle.order_laws.specs.Ordered.{OnceAfter}
+use Rattle.basics.proofs.Truth.{either, never, or-left, or-right, or-none, and-both}
+use Rattle.basics.proofs.Members.{all-has, has-first, has-later, has-append, has-snoc-same, has-snoc-other, has-snoc-old, slots-small, has-those, those-has}
+use Rattle.basics.proofs.Indices.{getD-any, getD-same}
 use Rattle.order_laws.proofs.Sorts.{source-no-output}
 use Rattle.order_laws.proofs.Walks.{Inv, goes-none, goes-on, Went, WentAll, went-none, went-then, each-went, mark-inv, push-went, walk-went, fresh-inv, fresh-new, count-replicate, once-not, once-snoc}
 use Rattle.order_laws.proofs.Closed.{Only, mark-only, each-only, walk-only}

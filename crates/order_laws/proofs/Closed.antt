@@ -9,10 +9,9 @@ use lib.ListN.{length, getD}
 use lib.Seq.{getD-set-other}
 use borrow.Author.Tests.{eqb-true, eqb-false}
 use Rattle.order.specs.Walk.{Walk, isVisited, mark, each, down, walk, unvisited, fresh, walkFrom}
-use Rattle.order_laws.specs.Ordered.{has}
-use Rattle.order_laws.specs.Members.{All}
-use Rattle.order_laws.proofs.Truth.{either, never}
-use Rattle.order_laws.proofs.Lists.{getD-same}
+use Rattle.basics.specs.Lists.{has, All}
+use Rattle.basics.proofs.Truth.{either, never}
+use Rattle.basics.proofs.Indices.{getD-same}
 use Rattle.order_laws.proofs.Walks.{Inv, Went, WentAll, each-went, mark-inv, mark-fewer, walk-went, fresh-inv, fresh-new, count-replicate}
 
 module _ (n : ℕ) (deps : ℕ → List ℕ) where

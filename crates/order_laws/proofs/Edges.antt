@@ -2,7 +2,7 @@
 use mathlib.Core.Path.{_≡_, refl, sym, ap, _∙_, subst}
 use mathlib.Core.Bool.{true, false≢true, Bool, false, cond}
 use mathlib.Core.Logic.{_⊎_, inl, inr, ⊎-elim}
-use Prim.Native.Nat.{ℕ, zero, suc, _/_, _%_, _-_}
+use Prim.Native.Nat.{ℕ, zero, suc, _/_, _%_}
 use native.Mathlib.Omega.{arith}
 use lib.Dec.{eqb}
 use borrow.Author.Tests.{eqb-true}
@@ -22,8 +22,9 @@ use Rattle.cell.specs.declared.Edge.the-variants.{To, Nowhere}
 use Rattle.cell.proofs.RoundTrips.{cell-back}
 use Rattle.loops.proofs.Edges.{edge-field}
 use Rattle.netlist.specs.Shape.{visit, isSource, combReads}
-use Rattle.order_laws.specs.Members.{All, Drives}
-use Rattle.order_laws.proofs.Truth.{either}
+use Rattle.basics.specs.Lists.{All}
+use Rattle.order_laws.specs.Members.{Drives}
+use Rattle.basics.proofs.Truth.{either}
 use Rattle.order_laws.proofs.Sorts.{kind-known}
 use Rattle.order_laws.proofs.Operands.{comb-by, all-comb}
 

@@ -1,6 +1,3 @@
-pub mod Truth
-pub mod Members
-pub mod Lists
 pub mod Sorts
 pub mod Operands
 pub mod Edges

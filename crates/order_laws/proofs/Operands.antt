@@ -18,14 +18,14 @@ use Rattle.value.proofs.Laws.{driver-cell}
 use Rattle.cell.specs.declared.Cell.{Cell}
 use Rattle.cell.specs.declared.Cell.the-variants.{Input, Output, Buf, Not, And, Or, Xor, Mux, Aig}
 use Rattle.netlist.specs.Shape.{visit, visitControl, visitMut, isInput, isSource, combReads}
-use Rattle.netlist.specs.Netlist.{Netlist, cellIn, slots, those, anyOf, joined, drivenBy, sources, startOf, outputOf, cellDeps}
+use Rattle.netlist.specs.Netlist.{Netlist, cellIn, drivenBy, sources, startOf, outputOf, cellDeps}
+use Rattle.basics.specs.Lists.{slots, those, anyOf, joined, has, All}
 use Rattle.netlist.proofs.Sources.{other-comb, source-comb}
 use Rattle.design.specs.Queue.{netIn}
-use Rattle.order_laws.specs.Ordered.{has}
-use Rattle.order_laws.specs.Members.{All, Drives}
-use Rattle.order_laws.proofs.Truth.{either, or-left, or-right}
+use Rattle.order_laws.specs.Members.{Drives}
+use Rattle.basics.proofs.Truth.{either, or-left, or-right}
 use Rattle.order_laws.proofs.Sorts.{source-mapped}
-use Rattle.order_laws.proofs.Members.{all-imp, all-map, all-unmap, all-append, all-joined, has-first, has-all, has-append, has-any, those-pass}
+use Rattle.basics.proofs.Members.{all-imp, all-map, all-unmap, all-append, all-joined, has-first, has-all, has-append, has-any, those-pass}
 
 -- a function put to each operand
 net-visit : (f : Net → Net) (p : ControlNet) → net (visitControl f p) ≡ f (net p)

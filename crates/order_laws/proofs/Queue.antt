@@ -20,14 +20,15 @@ use Rattle.cell.specs.declared.Cell.the-variants.{Input}
 use Rattle.cell.proofs.RoundTrips.{cell-back}
 use Rattle.netlist.specs.Netlist.{cellIn}
 use Rattle.netlist.specs.Shape.{visitMut}
-use Rattle.design.specs.declared.Found.{Found}
-use Rattle.design.specs.declared.Found.the-variants.{At, Nothing}
-use Rattle.design.specs.Queue.{drivenTo, followed, mapNetNew, Entry, eqRecord, eqCell, seek, applied, Design}
-use Rattle.order_laws.specs.Members.{All}
+use Rattle.numberer.specs.declared.Found.{Found}
+use Rattle.numberer.specs.declared.Found.the-variants.{At, Nothing}
+use Rattle.design.specs.Queue.{drivenTo, followed, mapNetNew, eqRecord, eqCell, applied, Design}
+use Rattle.numberer.specs.Numberer.{Entry, seek}
+use Rattle.basics.specs.Lists.{All}
 use Rattle.order_laws.specs.Ends.{Final, Ends}
-use Rattle.order_laws.proofs.Truth.{eqb-self, and-both, and-true}
+use Rattle.basics.proofs.Truth.{eqb-self, and-both, and-true}
 use Rattle.order_laws.proofs.Sorts.{record-bit}
-use Rattle.order_laws.proofs.Lists.{getD-mapped}
+use Rattle.basics.proofs.Indices.{getD-mapped}
 
 -- cells with equal fields are equal
 record-equal : (x y : Record) → x .bit ≡ y .bit → eqRecord x y ≡ true → x ≡ y

@@ -15,8 +15,8 @@ use Rattle.cell.specs.Records.{cellRecord}
 use Rattle.netlist.specs.Shape.{visitMut, isInput, isSource, isOutput, hasEffects, isSplittable}
 use Rattle.netlist.specs.Netlist.{cellIn}
 use Rattle.netlist.proofs.Sources.{input-source, source-input}
-use Rattle.order_laws.proofs.Truth.{either, never, or-left, or-right, neither, and-both}
-use Rattle.order_laws.proofs.Lists.{getD-inside}
+use Rattle.basics.proofs.Truth.{either, never, or-left, or-right, neither, and-both}
+use Rattle.basics.proofs.Indices.{getD-inside}
 
 -- the kind by its number
 abbrev pub kindIn : Cell → ℕ

@@ -10,11 +10,10 @@ use lib.Seq.{getD-set-same, getD-set-other}
 use borrow.Author.Tests.{eqb-true, eqb-false}
 use Rattle.order.specs.Walk.{Walk, isVisited, mark, push, each, down, walk, countFalse, unvisited, fresh, walkFrom}
 use Rattle.order.proofs.Walks.{count-set, inside, walk-there}
-use Rattle.order_laws.specs.Ordered.{has, OnceAfter, FedAfter, Each}
-use Rattle.order_laws.proofs.Truth.{either, or-none}
-use Rattle.order_laws.proofs.Members.{has-first, has-later, has-cons, has-snoc, has-snoc-same, has-snoc-other, has-snoc-old}
-use Rattle.order_laws.proofs.Truth.{never, eqb-self, or-left, or-right}
-use Rattle.order_laws.proofs.Members.{has-append}
+use Rattle.basics.specs.Lists.{has}
+use Rattle.order_laws.specs.Ordered.{OnceAfter, FedAfter, Each}
+use Rattle.basics.proofs.Truth.{either, or-none, never}
+use Rattle.basics.proofs.Members.{has-first, has-later, has-cons, has-snoc, has-snoc-same, has-snoc-other, has-snoc-old}
 
 -- what stands before a list of which each is once is not in it
 pub once-not : (before ss : List ℕ) (x : ℕ) → OnceAfter before ss → has x before ≡ true → has x ss ≡ false

@@ -1,6 +1,6 @@
 -- What holds of each member of a list, and of the slot that drives a net. Assumes nothing: these are definitions.
 use mathlib.Core.Path.{_≡_}
-use mathlib.Core.List.{List, [], _∷_}
+use mathlib.Core.List.{List}
 use mathlib.Core.Bool.{false}
 use Prim.Native.Nat.{ℕ, _<_}
 use lib.ListN.{length}
@@ -11,11 +11,6 @@ use Rattle.value.specs.Value.{driver}
 use Rattle.cell.specs.declared.Cell.{Cell}
 use Rattle.netlist.specs.Shape.{isOutput}
 use Rattle.netlist.specs.Netlist.{cellIn}
-
--- of each element
-unfoldable pub All : {A : Type 0} → (A → Type 0) → List A → Type 0
-All P [] = Unit {0}
-All P (x ∷ xs) = P x × All P xs
 
 -- of the slot that drives a net; of a constant nothing is said
 abbrev pub Drives : (ℕ → Type 0) → Net → Type 0

@@ -1,14 +1,9 @@
 -- What the laws of the orders say. Assumes nothing: these are definitions.
 use mathlib.Core.Path.{_≡_}
-use mathlib.Core.Bool.{Bool, true, false, _||_}
+use mathlib.Core.Bool.{true, false}
 use mathlib.Core.List.{List, [], _∷_, _++_}
 use Prim.Native.Nat.{ℕ, _<_}
-use lib.Dec.{eqb}
-
--- a number is in a list
-unfoldable pub has : ℕ → List ℕ → Bool
-has x [] = false
-has x (y ∷ ys) = eqb x y || has x ys
+use Rattle.basics.specs.Lists.{has}
 
 -- each item stands once: it is not among those before it
 unfoldable pub OnceAfter : List ℕ → List ℕ → Type 0

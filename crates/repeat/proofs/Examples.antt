@@ -10,18 +10,19 @@ use Rattle.cell.specs.Bytes.{word16, word32, bytes16, bytes32}
 use Rattle.kinds.specs.Kinds.{kindOf, useOf, sortOf}
 use Rattle.cell.specs.Operands.{fieldOf, isOperand, isCombEdge, edgeAt}
 use Rattle.cell.specs.Records.{recordOf, recordAt, recordsOf, bytesOf, cellOf, cellRecord}
-use Rattle.cell.specs.Tabulate.{tabulate}
+use Rattle.basics.specs.Lists.{tabulate, those, anyOf, joined}
 use Rattle.loops.specs.Reach.{stepBack, reachingIn, reaches, onLoop}
 use Rattle.checking.specs.Refusals.{firstOf, slotBySlot}
 use Rattle.checking.specs.Checking.{unknownKind, reservedField, follows, outOfSequence, bitOutOfSequence, undrivenField, undrivenOperand, kindStages, fieldStages, bitStages, operandStages, recordStages, loopStages, sizeGroup, recordGroup, loopGroup, netlistStages, checkStages}
 use Rattle.netlist.specs.Shape.{visit, visitMut, hasEffects}
 use Rattle.netlist.specs.Netlist
-use Rattle.netlist.specs.Netlist.{netlistOf, encode, ticketOf, those, anyOf, joined, sources, outputOf, iterCells, cellDeps}
+use Rattle.netlist.specs.Netlist.{netlistOf, encode, ticketOf, sources, outputOf, iterCells, cellDeps}
 use Rattle.order.specs.Walk.{each, down, walk, walkFrom}
 use Rattle.order.specs.Orders.{bitDeps, topoSort}
-use Rattle.design.specs.Queue.{unchanged, followed, mapNetNew, findNewCell, applied, eqRecord, eqCell, seek}
+use Rattle.design.specs.Queue.{unchanged, followed, mapNetNew, findNewCell, applied, eqRecord, eqCell}
+use Rattle.numberer.specs.Numberer.{seek}
 use Rattle.compact.specs.Compact.{keep, keptSlots, countKept, netMap, compact}
-use Rattle.normalize.specs.Outcomes.{_orElse_, fromControl}
+use Rattle.normalize.specs.Outcomes.{fromControl, _orElse_}
 use Rattle.normalize.specs.Normalize.{normalize}
 use Rattle.aig.specs.Aig.{ifNot, ifAig, ifXor, notRule, aigOfNot, andAnd, andWith, aigOfAnd, nandAnd, xorOf, nandNand, nandWith, aigOfNand, xorAnd, xorWith, aigOfXor, aigOrder, aigRule, andXor, xorXor, xorOrder, xorRule, simpleAigOpt}
 use Rattle.rewrite.specs.Rewriter.{stamp, findCell, entered, finished, weight}

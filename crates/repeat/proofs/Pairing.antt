@@ -15,9 +15,10 @@ use Rattle.kinds.specs.Kinds.{kindOf, useOf, sortOf}
 use Rattle.cell.specs.Operands.{fieldOf, isOperand}
 use Rattle.cell.specs.Records.{recordIn, cellRecord}
 use Rattle.netlist.specs.Shape.{visitMut, isInput, isOutput}
-use Rattle.netlist.specs.Netlist.{Netlist, cellIn, encode, slots, those}
+use Rattle.netlist.specs.Netlist.{Netlist, cellIn, encode}
+use Rattle.basics.specs.Lists.{slots, those}
 use Rattle.levels.specs.Evaluate.{inputSlots, outputSlots}
-use Rattle.order_laws.proofs.Members.{all-tabulate, those-same}
+use Rattle.basics.proofs.Members.{all-tabulate, those-same}
 use Rattle.order_laws.proofs.Sorts.{input-kind, output-kind}
 use Rattle.kept.proofs.Sound.{Sound}
 use Rattle.kept.proofs.Passing.{encode-length, encode-at}

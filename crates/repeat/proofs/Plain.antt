@@ -12,7 +12,7 @@ use Rattle.cell.proofs.Lists.{records-length, records-at}
 use Rattle.checking.specs.declared.Verdict.the-variants.{Pass}
 use Rattle.netlist.specs.Netlist.{Netlist, cellIn}
 use Rattle.calls.specs.Calls.{decoded, checkVerdict}
-use Rattle.order_laws.proofs.Members.{all-at, none-any}
+use Rattle.basics.proofs.Members.{all-at, none-any}
 use Rattle.kept.proofs.Tickets.{ticket-count, ticket-record}
 use Rattle.rewrite_normal.specs.Plain.{Plain}
 use Rattle.rewrite_normal.proofs.Cells.{aig-kind}

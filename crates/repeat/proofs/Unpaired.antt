@@ -3,7 +3,7 @@
 use mathlib.Core.Path.{_≡_, refl, sym, ap, ap₂, _∙_, subst}
 use mathlib.Core.Bool.{Bool, true, false, not, _&&_, _||_, cond}
 use mathlib.Core.List.{List, [], _∷_, map}
-use mathlib.Core.Logic.{_⊎_, ⊎-elim}
+use mathlib.Core.Logic.{⊎-elim}
 use Prim.Native.Nat.{ℕ, zero, suc, _<_}
 use native.Mathlib.Omega.{arith}
 use lib.Dec.{eqb, ltb}
@@ -17,12 +17,10 @@ use Rattle.cell.specs.declared.Record.{Record}
 use Rattle.cell.specs.Records.{recordOf, recordIn}
 use Rattle.kinds.specs.Kinds.{kindOf, useOf, sortOf}
 use Rattle.cell.specs.Operands.{isOperand, fieldOf}
-use Rattle.cell.specs.Tabulate.{tabulate}
-use Rattle.netlist.specs.Netlist.{anyOf, slots, those}
-use Rattle.order_laws.specs.Members.{All}
-use Rattle.order_laws.proofs.Members.{all-tabulate, all-those, any-none, has-all, has-slots, none-any, all-imp}
-use Rattle.order_laws.proofs.Truth.{and-both, and-true, either, eqb-self, never, or-left, or-right}
-use Rattle.order_laws.proofs.Lists.{map-same}
+use Rattle.basics.specs.Lists.{tabulate, anyOf, slots, those, All}
+use Rattle.basics.proofs.Members.{all-tabulate, all-those, any-none, has-all, has-slots, none-any, all-imp}
+use Rattle.basics.proofs.Truth.{and-both, and-true, either, eqb-self, never, or-left, or-right}
+use Rattle.basics.proofs.Indices.{map-same}
 use Rattle.normal.specs.Paired.{renumber}
 use Rattle.normal.proofs.Alike.{renumber-same}
 use Rattle.repeat.specs.Pairing.{RecordsPaired, RecordsPairedBy, exchanged, fieldBy, recordBy, slotsOfKind}

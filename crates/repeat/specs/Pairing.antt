@@ -13,7 +13,7 @@ use Rattle.kinds.specs.Kinds.{numberOf}
 use Rattle.cell.specs.declared.Record.{Record}
 use Rattle.cell.specs.Operands.{fieldOf, isOperand}
 use Rattle.cell.specs.Records.{recordOf, recordIn}
-use Rattle.netlist.specs.Netlist.{slots, those}
+use Rattle.basics.specs.Lists.{slots, those}
 use Rattle.normal.specs.Paired.{renumber}
 
 -- a field of a record, by another numbering of the slots: an operand that is a constant stays, any other names the slot that p pairs with it

@@ -11,7 +11,7 @@ use Rattle.cell.specs.Records.{recordsOf}
 use Rattle.checking.specs.declared.Verdict.{Verdict}
 use Rattle.checking.specs.Refusals.{firstOf}
 use Rattle.checking.specs.Checking.{workStage, sizeStage}
-use Rattle.netlist.specs.Netlist.{anyOf}
+use Rattle.basics.specs.Lists.{anyOf}
 use Rattle.design.specs.Queue.{findNewCell}
 use Rattle.calls.specs.declared.Written.the-variants as written
 use Rattle.calls.specs.declared.Merged.the-variants as merged

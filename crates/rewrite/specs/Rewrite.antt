@@ -9,9 +9,10 @@ use Rattle.cell.specs.declared.Cell.the-variants.{Not}
 use Rattle.netlist.specs.Shape.{visitMut, hasEffects, isSplittable}
 use Rattle.netlist.specs.Netlist.{Netlist, cellIn}
 use Rattle.order.specs.Orders.{topoSort}
-use Rattle.design.specs.declared.Found.{Found}
-use Rattle.design.specs.declared.Found.the-variants.{Nothing, At}
-use Rattle.design.specs.Queue.{netIn, mapNetNew, replaceCell, replaceNet, applied, seek}
+use Rattle.numberer.specs.declared.Found.{Found}
+use Rattle.numberer.specs.declared.Found.the-variants.{Nothing, At}
+use Rattle.design.specs.Queue.{netIn, mapNetNew, replaceCell, replaceNet, applied}
+use Rattle.numberer.specs.Numberer.{seek}
 use Rattle.compact.specs.Compact.{compact}
 use Rattle.normalize.specs.declared.Outcome.{Outcome}
 use Rattle.normalize.specs.declared.Outcome.the-variants.{None, Value, Form, Add, NotOf, AddNotOf}

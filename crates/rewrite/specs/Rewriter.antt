@@ -12,7 +12,8 @@ use Rattle.cell.specs.declared.Cell.{Cell}
 use Rattle.cell.specs.declared.Cell.the-variants.{Input, Output, Buf, Not, And, Or, Xor, Mux, Aig}
 use Rattle.design.specs.declared.Source.{Source}
 use Rattle.design.specs.declared.Source.the-variants.{Opaque, Known}
-use Rattle.design.specs.Queue.{Design, Entry, unchanged, addCell}
+use Rattle.design.specs.Queue.{Design, unchanged, addCell}
+use Rattle.numberer.specs.Numberer.{Entry}
 
 -- `design`, `cache`, and for `processed` a stamp by slot: 0 is not processed, and a net that is processed later has a higher one. The clock
 -- is the last stamp given. Inputs and outputs have none: the Rust's look-up shows an input or a constant, and no

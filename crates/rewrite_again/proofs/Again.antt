@@ -12,16 +12,17 @@ use Rattle.value.specs.declared.Driver.the-variants as driven
 use Rattle.value.specs.Value.{driver}
 use Rattle.cell.specs.declared.Cell.{Cell}
 use Rattle.netlist.specs.Shape.{visit, visitMut, isInput, isOutput, hasEffects}
-use Rattle.netlist.specs.Netlist.{Netlist, cellIn, slots, those}
+use Rattle.netlist.specs.Netlist.{Netlist, cellIn}
+use Rattle.basics.specs.Lists.{slots, those}
 use Rattle.order.specs.Orders.{topoSort}
 use Rattle.design.specs.Queue.{netIn, findNewCell}
 use Rattle.compact.specs.Compact.{keep, keptSlots, countKept, renumbered, netMap, compact}
 use Rattle.rewrite.specs.Rewriter.{Rewriter}
 use Rattle.rewrite.specs.Rewrite.{Run, ran, stuck, run, compacted, rewrite}
 use Rattle.levels.specs.Evaluate.{inputSlots, outputSlots}
-use Rattle.order_laws.proofs.Truth.{either, never}
-use Rattle.order_laws.proofs.Members.{all-imp, all-tabulate, all-those, those-same}
-use Rattle.order_laws.proofs.Lists.{map-same}
+use Rattle.basics.proofs.Truth.{either, never}
+use Rattle.basics.proofs.Members.{all-imp, all-tabulate, all-those, those-same}
+use Rattle.basics.proofs.Indices.{map-same}
 use Rattle.order_laws.proofs.Sorts.{splittable-gate, input-effects, inputs-by, output-effects, outputs-by}
 use Rattle.kept.proofs.Chosen.{chosen, count, count-le, place-of, SlotAt, slot-at, chosen-rest}
 use Rattle.kept.proofs.Compact.{old, compact-length, cell-at, bit-at, compact-sound}

@@ -18,10 +18,11 @@ use Rattle.netlist.specs.Netlist.{Netlist, cellIn}
 use Rattle.order.specs.Orders.{topoSort}
 use Rattle.design.specs.Queue.{applied}
 use Rattle.rewrite.specs.Rewriter.{Rewriter}
-use Rattle.order_laws.specs.Members.{All, Drives, Wired}
-use Rattle.order_laws.proofs.Truth.{either}
-use Rattle.order_laws.proofs.Members.{all-imp}
-use Rattle.order_laws.proofs.Lists.{getD-padded}
+use Rattle.basics.specs.Lists.{All}
+use Rattle.order_laws.specs.Members.{Drives, Wired}
+use Rattle.basics.proofs.Truth.{either}
+use Rattle.basics.proofs.Members.{all-imp}
+use Rattle.basics.proofs.Indices.{getD-padded}
 use Rattle.order_laws.proofs.Sorts.{record-bit, splittable-gate, gate-parts, inputs-by, outputs-by}
 use Rattle.order_laws.proofs.Queue.{applied-at, applied-length}
 use Rattle.levels_laws.specs.Algebra.{Before, Ranked}

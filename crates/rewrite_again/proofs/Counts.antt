@@ -7,12 +7,11 @@ use native.Mathlib.Omega.{arith}
 use lib.Dec.{eqb}
 use lib.ListN.{length, length-append}
 use borrow.Author.Tests.{eqb-true, eqb-false}
-use Rattle.cell.specs.Tabulate.{tabulate}
-use Rattle.netlist.specs.Netlist.{those, slots}
-use Rattle.netlist.proofs.Lists.{those-append}
-use Rattle.order_laws.specs.Ordered.{has, OnceAfter, Each}
-use Rattle.order_laws.proofs.Truth.{either}
-use Rattle.order_laws.proofs.Members.{has-snoc-same, has-snoc-other, those-same, all-tabulate, has-first, has-later}
+use Rattle.basics.specs.Lists.{tabulate, those, slots, has}
+use Rattle.basics.proofs.Those.{those-append}
+use Rattle.order_laws.specs.Ordered.{OnceAfter, Each}
+use Rattle.basics.proofs.Truth.{either}
+use Rattle.basics.proofs.Members.{has-snoc-same, has-snoc-other, those-same, all-tabulate, has-first, has-later}
 use Rattle.kept.proofs.Chosen.{chosen, count, count-yes, count-no}
 
 pub count-same : (p q : ℕ → Bool) (n : ℕ) → ((i : ℕ) → i < n → p i ≡ q i) → count p n ≡ count q n

@@ -13,15 +13,15 @@ use Rattle.value.specs.declared.Net.{Net}
 use Rattle.cell.specs.declared.Cell.{Cell}
 use Rattle.cell.specs.declared.Cell.the-variants.{Input}
 use Rattle.netlist.specs.Shape.{visitMut, isSplittable, hasEffects}
-use Rattle.netlist.specs.Netlist.{Netlist, cellIn, those}
+use Rattle.netlist.specs.Netlist.{Netlist, cellIn}
+use Rattle.basics.specs.Lists.{those, has, All}
 use Rattle.order.specs.Orders.{topoSort}
-use Rattle.design.specs.Queue.{Entry, netIn, mapNetNew, findNewCell}
+use Rattle.numberer.specs.Numberer.{Entry}
+use Rattle.design.specs.Queue.{netIn, mapNetNew, findNewCell}
 use Rattle.rewrite.specs.Rewriter.{Rewriter, entered, finished}
 use Rattle.rewrite.specs.Rewrite.{Result, enter, processCell, addCell, Run, bitDone, cellDone, runItem}
-use Rattle.order_laws.specs.Ordered.{has}
-use Rattle.order_laws.specs.Members.{All}
-use Rattle.order_laws.proofs.Truth.{either, never}
-use Rattle.order_laws.proofs.Members.{has-snoc-same, has-snoc-other, all-imp, all-append, has-snoc-old}
+use Rattle.basics.proofs.Truth.{either, never}
+use Rattle.basics.proofs.Members.{has-snoc-same, has-snoc-other, all-imp, all-append, has-snoc-old}
 use Rattle.order_laws.proofs.Sorts.{splittable-gate, effects-by, splits-by}
 use Rattle.rewrite_laws.proofs.Items.{Along, item-by}
 use Rattle.normal.specs.Paired.{exchange, Alike}

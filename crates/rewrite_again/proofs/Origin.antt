@@ -16,14 +16,15 @@ use Rattle.value.specs.Value.{slotAt, driver}
 use Rattle.value.proofs.Laws.{driver-cell}
 use Rattle.cell.specs.declared.Cell.{Cell}
 use Rattle.netlist.specs.Shape.{isSplittable}
-use Rattle.netlist.specs.Netlist.{cellIn, those}
+use Rattle.netlist.specs.Netlist.{cellIn}
+use Rattle.basics.specs.Lists.{those, All}
 use Rattle.order.specs.Orders.{topoSort}
-use Rattle.netlist.proofs.Lists.{those-append}
+use Rattle.basics.proofs.Those.{those-append}
 use Rattle.design.specs.Queue.{netIn}
-use Rattle.order_laws.specs.Members.{All, Drives}
+use Rattle.order_laws.specs.Members.{Drives}
 use Rattle.order_laws.proofs.Bits.{topoSort-each}
-use Rattle.order_laws.proofs.Truth.{either}
-use Rattle.order_laws.proofs.Members.{those-pass, all-those, all-at, all-has}
+use Rattle.basics.proofs.Truth.{either}
+use Rattle.basics.proofs.Members.{those-pass, all-those, all-at, all-has}
 use Rattle.normal.specs.Paired.{renumber}
 use Rattle.normal.proofs.Rules.{Fixes}
 use Rattle.normal.proofs.Alike.{renumber-slot, renumber-fixes, renumber-stays}

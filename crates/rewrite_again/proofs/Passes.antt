@@ -9,15 +9,15 @@ use Rattle.value.proofs.Order.{net-order, control-order}
 use Rattle.cell.specs.declared.Cell.{Cell}
 use Rattle.cell.specs.declared.Cell.the-variants.{Input, Output, Buf, Not, And, Or, Xor, Mux, Aig}
 use Rattle.netlist.specs.Shape.{hasEffects}
-use Rattle.design.specs.declared.Found.the-variants.{Nothing}
-use Rattle.design.specs.Queue.{seek}
+use Rattle.numberer.specs.declared.Found.the-variants.{Nothing}
+use Rattle.numberer.specs.Numberer.{seek}
 use Rattle.normalize.specs.declared.Outcome.the-variants.{None, Form}
 use Rattle.normalize.specs.Outcomes.{_orElse_, given}
 use Rattle.normalize.specs.Normalize.{normalize}
 use Rattle.aig.specs.Aig.{simpleAigOpt}
 use Rattle.rewrite.specs.Rewriter.{Rewriter, Lookup, findCell, weight}
 use Rattle.rewrite.specs.Rewrite.{rules, Result, none, cell, perform, enter, asked, replacing, goOn, process, processCell}
-use Rattle.order_laws.proofs.Truth.{either}
+use Rattle.basics.proofs.Truth.{either}
 use Rattle.normal.specs.Paired.{exchange}
 use Rattle.normal.proofs.Normal.{isBuf}
 use Rattle.rewrite_again.proofs.State.{g}

@@ -7,17 +7,16 @@ use Prim.Native.Nat.{ℕ, _+_, _≤_, _<_}
 use native.Mathlib.Omega.{arith}
 use lib.ListN.{length}
 use Rattle.cell.specs.declared.Cell.{Cell}
-use Rattle.cell.proofs.Lists.{tabulate-length, tabulate-at}
+use Rattle.basics.proofs.Tables.{tabulate-length, tabulate-at}
 use Rattle.netlist.specs.Shape.{visit, visitMut}
-use Rattle.netlist.specs.Netlist.{Netlist, cellIn, those}
+use Rattle.netlist.specs.Netlist.{Netlist, cellIn}
+use Rattle.basics.specs.Lists.{those, has, All}
 use Rattle.order.specs.Orders.{topoSort}
 use Rattle.design.specs.Queue.{netIn, unchanged, findNewCell}
 use Rattle.rewrite.specs.Rewriter.{begun}
 use Rattle.rewrite.specs.Rewrite.{Run, ran, stuck, run, slotsOf}
-use Rattle.order_laws.specs.Ordered.{has}
-use Rattle.order_laws.specs.Members.{All}
 use Rattle.order_laws.proofs.Bits.{topoSort-fed, sourcesLast}
-use Rattle.order_laws.proofs.Members.{all-imp}
+use Rattle.basics.proofs.Members.{all-imp}
 use Rattle.rewrite_laws.proofs.Items.{run-along}
 use Rattle.levels_laws.proofs.Ranks.{ranked-falls}
 use Rattle.kept.proofs.Sound.{Inside}

@@ -16,21 +16,21 @@ use Rattle.value.proofs.Laws.{cell-driver}
 use Rattle.cell.specs.declared.Cell.{Cell}
 use Rattle.cell.specs.declared.Cell.the-variants.{Input}
 use Rattle.netlist.specs.Shape.{visitMut, visit, hasEffects}
-use Rattle.netlist.specs.Netlist.{Netlist, cellIn, those}
+use Rattle.netlist.specs.Netlist.{Netlist, cellIn}
+use Rattle.basics.specs.Lists.{those, has, All}
 use Rattle.order.specs.Orders.{topoSort}
 use Rattle.design.specs.declared.Source.the-variants.{Opaque, Known}
-use Rattle.design.specs.declared.Found.{Found}
-use Rattle.design.specs.declared.Found.the-variants.{Nothing, At}
-use Rattle.design.specs.Queue.{Entry, netIn, drivenTo, mapNetNew, sourceIn, findNewCell, seek}
+use Rattle.numberer.specs.declared.Found.{Found}
+use Rattle.numberer.specs.declared.Found.the-variants.{Nothing, At}
+use Rattle.numberer.specs.Numberer.{Entry, seek}
+use Rattle.design.specs.Queue.{netIn, drivenTo, mapNetNew, sourceIn, findNewCell}
 use Rattle.normalize.specs.declared.Outcome.{Outcome}
 use Rattle.normalize.specs.declared.Outcome.the-variants.{None, Value, Form, Add, NotOf, AddNotOf}
 use Rattle.aig.specs.Aig.{simpleAigOpt}
 use Rattle.rewrite.specs.Rewriter.{Rewriter, stamp, findCell}
-use Rattle.order_laws.specs.Ordered.{has}
-use Rattle.order_laws.specs.Members.{All}
 use Rattle.order_laws.proofs.Bits.{topoSort-each}
-use Rattle.order_laws.proofs.Truth.{either, never}
-use Rattle.order_laws.proofs.Members.{all-every}
+use Rattle.basics.proofs.Truth.{either, never}
+use Rattle.basics.proofs.Members.{all-every}
 use Rattle.order_laws.proofs.Queue.{mapped-keeps, replacement, seek-finds}
 use Rattle.kept.proofs.Chosen.{count-le}
 use Rattle.normal.specs.Paired.{Alike}

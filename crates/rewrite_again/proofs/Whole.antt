@@ -21,10 +21,11 @@ use Rattle.netlist.specs.Netlist.{cellIn}
 use Rattle.order.specs.Orders.{topoSort}
 use Rattle.design.specs.Queue.{netIn, drivenTo, mapNetNew, applied}
 use Rattle.compact.specs.Compact.{keep, isKept}
-use Rattle.order_laws.specs.Members.{All, Drives}
+use Rattle.basics.specs.Lists.{All}
+use Rattle.order_laws.specs.Members.{Drives}
 use Rattle.order_laws.proofs.Bits.{topoSort-each}
-use Rattle.order_laws.proofs.Truth.{either, never}
-use Rattle.order_laws.proofs.Members.{all-imp, all-both, all-every}
+use Rattle.basics.proofs.Truth.{either, never}
+use Rattle.basics.proofs.Members.{all-imp, all-both, all-every}
 use Rattle.order_laws.proofs.Sorts.{splittable-gate, effects-by}
 use Rattle.order_laws.proofs.Queue.{mapped-once, applied-at, mapped-final}
 use Rattle.order_laws.proofs.Operands.{visited-all}

@@ -8,16 +8,16 @@ use lib.ListN.{length, drop}
 use borrow.Author.Tests.{lt-ltb, le-ltb}
 use Rattle.cell.specs.declared.Record.{Record}
 use Rattle.cell.specs.Records.{recordsOf}
-use Rattle.netlist.specs.Areas.{recordsIn, Within, keysFrom, visitedAt}
+use Rattle.netlist.specs.inner.Areas.{recordsIn, Within, keysFrom, visitedAt}
 use Rattle.netlist.specs.Netlist.{netlistOf}
 use Rattle.netlist.proofs.Frames.{within-drop}
 use Rattle.design.specs.Queue.{findNewCell}
 use Rattle.compact.specs.Compact.{compact}
-use Rattle.design.specs.Words.{netlistIn}
+use Rattle.design.specs.inner.Words.{netlistIn}
 use Rattle.rewrite.specs.Rewrite.{run, slotsOf, rewrite}
 use Rattle.rewriter.specs.declared.Rewritten.{Rewritten}
 use Rattle.rewriter.specs.declared.Rewritten.the-variants.{To, Full}
-use Rattle.rewriter.specs.Run.{RewritesTo, Rewrites}
+use Rattle.rewriter.specs.inner.Run.{RewritesTo, Rewrites}
 use Rattle.checking.specs.declared.Refusal.the-variants.{SlotsExhausted}
 use Rattle.checking.specs.declared.Verdict.the-variants as verdict
 use Rattle.checking.specs.Refusals.{Stage, firstOf}
@@ -27,9 +27,9 @@ use Rattle.calls.specs.declared.Written.{Written}
 use Rattle.calls.specs.declared.Written.the-variants as written
 use Rattle.calls.specs.Answers.{writtenBy}
 use Rattle.calls.specs.Calls.{room, encoded, rewriteRun, rewriteBytes, rewriteStages}
-use Rattle.delivery.specs.Delivery.{Delivers}
+use Rattle.delivery.specs.inner.Delivery.{Delivers}
 use Rattle.delivery.proofs.Deciding.{refused-decides, passed-decides}
-use Rattle.rewrite_call.specs.Rewrite.{RewritesTicket}
+use Rattle.rewrite_call.specs.inner.Rewrite.{RewritesTicket}
 
 pub loaded-passed : (t : List ℕ) (n : ℕ) (ws : List ℕ) → recordsIn n ws ≡ recordsOf t → firstOf (netlistStages (recordsOf t)) ≡ verdict.Pass
     → firstOf (netlistStages (recordsIn n ws)) ≡ verdict.Pass

@@ -1,1 +1,1 @@
-pub mod Rewrite
+pub mod inner

@@ -8,8 +8,8 @@ ghost use lib.ListN.{length};
 ghost use Rattle.design.specs.Queue.{findNewCell};
 ghost use Rattle.calls.specs.Work.{cleared};
 ghost use Rattle.calls.specs.Calls.{rewriteAnswer, rewriteReply};
-ghost use Rattle.delivery.specs.Delivery.{Passed};
-ghost use Rattle.rewrite_call.specs.Rewrite.{RewritesTicket};
+ghost use Rattle.delivery.specs.inner.Delivery.{Passed};
+ghost use Rattle.rewrite_call.specs.inner.Rewrite.{RewritesTicket};
 
 // 9, 12, or the byte count, for a ticket that passed.
 fn rewritten(ticket: &[u8], work: &mut [u32], reply: &mut [u8]) -> Written

@@ -23,13 +23,15 @@ use Rattle.cell.specs.declared.Cell.the-variants.{Input}
 use Rattle.netlist.specs.Shape.{combReads, visitMut, isSource}
 use Rattle.netlist.specs.Netlist.{cellIn}
 use Rattle.design.specs.declared.Source.the-variants.{Opaque}
-use Rattle.design.specs.Queue.{Design, Entry, netIn, drivenTo, mapNetNew, sourceIn, findNewCell}
+use Rattle.design.specs.Queue.{Design, netIn, drivenTo, mapNetNew, sourceIn, findNewCell}
+use Rattle.numberer.specs.Numberer.{Entry}
 use Rattle.rewrite.specs.Rewriter.{Rewriter, stamp, findCell, entered, finished}
 use Rattle.order_laws.specs.Ends.{Final}
-use Rattle.order_laws.proofs.Truth.{either}
-use Rattle.order_laws.proofs.Members.{all-every}
+use Rattle.basics.proofs.Truth.{either}
+use Rattle.basics.proofs.Members.{all-every}
 use Rattle.order_laws.proofs.Queue.{mapped-keeps, replacement}
-use Rattle.rewrite_laws.proofs.Settled.{limit, stamped-inside, tickets, SettledSlot, Settled, StandsFor, Inv, map-settled, stamped-settled}
+use Rattle.rewrite_laws.proofs.Settled.{limit, stamped-inside, map-settled, stamped-settled}
+use Rattle.rewrite_laws.specs.State.{tickets, SettledSlot, Settled, StandsFor, Inv}
 use Rattle.accepted_laws.proofs.Final.{mapNetNew-final}
 use Rattle.levels_laws.specs.Algebra.{cellValue}
 use Rattle.levels_laws.specs.Instances.{kleene}

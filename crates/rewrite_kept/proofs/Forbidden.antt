@@ -1,10 +1,9 @@
 -- WHAT REWRITING MAY NOT DO: levels that do not stand for others, and tickets u that would not do in place of t, computed by the checker. Assumes
 -- nothing.
-use mathlib.Core.Path.{_≡_, ap}
+use mathlib.Core.Path.{ap, _≡_}
 use mathlib.Core.List.{List, [], _∷_}
 use Prim.Native.Nat.{ℕ}
 use native.Mathlib.Omega.{arith}
-use lib.ListN.{getD}
 use Rattle.logic.specs.Levels.{levelOf, eqLevel}
 use Rattle.value.specs.Value.{eqNet, driver}
 use Rattle.cell.specs.declared.Record.{Record}
@@ -12,12 +11,11 @@ use Rattle.cell.specs.Bytes.{word16, word32, bytes16, bytes32}
 use Rattle.kinds.specs.Kinds.{kindOf, useOf, sortOf}
 use Rattle.cell.specs.Operands.{fieldOf, isOperand, isCombEdge, edgeAt}
 use Rattle.cell.specs.Records.{recordOf, recordAt, recordsOf, bytesOf, cellOf}
-use Rattle.cell.specs.Tabulate.{tabulate}
+use Rattle.basics.specs.Lists.{tabulate, those, anyOf, joined}
 use Rattle.loops.specs.Reach.{stepBack, reachingIn, reaches, onLoop}
 use Rattle.checking.specs.Refusals.{firstOf, slotBySlot}
 use Rattle.checking.specs.Checking.{unknownKind, reservedField, follows, outOfSequence, bitOutOfSequence, undrivenField, undrivenOperand, kindStages, fieldStages, bitStages, operandStages, recordStages, loopStages, sizeGroup, recordGroup, loopGroup, netlistStages, checkStages}
-use Rattle.netlist.specs.Shape.{isInput, isOutput}
-use Rattle.netlist.specs.Netlist.{netlistOf, ticketOf, those, anyOf, joined}
+use Rattle.netlist.specs.Netlist.{netlistOf, ticketOf}
 use Rattle.levels.specs.Evaluate.{netLevel, cellLevel, roundOf, levelsIn, levels, givenLevels, inputSlots, outputSlots, outputLevels}
 use Rattle.calls.specs.Answers.{writtenFigures}
 use Rattle.calls.specs.Calls.{put, checkVerdict, levelBytes, stimulusStages, levelVerdict, levelAnswer, levelReply}

@@ -15,18 +15,18 @@ use Rattle.logic.proofs.Laws.{refines-refl}
 use Rattle.value.specs.declared.Net.{Net}
 use Rattle.cell.specs.declared.Cell.{Cell}
 use Rattle.netlist.specs.Shape.{isInput, isOutput, hasEffects}
-use Rattle.netlist.specs.Netlist.{cellIn, slots}
+use Rattle.netlist.specs.Netlist.{cellIn}
+use Rattle.basics.specs.Lists.{slots, All}
 use Rattle.order.specs.Orders.{bitDeps, topoSort}
 use Rattle.design.specs.Queue.{netIn, applied}
 use Rattle.rewrite.specs.Rewriter.{Rewriter, Lookup}
 use Rattle.levels.specs.Evaluate.{levels, givenLevels, outputSlots, outputLevels}
 use Rattle.order_laws.specs.Ordered.{FedAfter}
-use Rattle.order_laws.specs.Members.{All}
-use Rattle.order_laws.proofs.Truth.{either, or-right}
-use Rattle.order_laws.proofs.Members.{all-imp, all-both, those-pass, all-those, all-tabulate}
+use Rattle.basics.proofs.Truth.{either, or-right}
+use Rattle.basics.proofs.Members.{all-imp, all-both, those-pass, all-those, all-tabulate}
 use Rattle.order_laws.proofs.Queue.{applied-length}
 use Rattle.order_laws.proofs.Sorts.{gate-other}
-use Rattle.rewrite_laws.proofs.Settled.{Inv}
+use Rattle.rewrite_laws.specs.State.{Inv}
 use Rattle.levels_laws.specs.Algebra.{cellValue, Fits, Ranked}
 use Rattle.levels_laws.specs.Instances.{kleene}
 use Rattle.levels_laws.proofs.Operands.{cell-own}

@@ -21,8 +21,8 @@ use Rattle.cell.specs.declared.Cell.the-variants.{Input, Output, Buf, Not, And,
 use Rattle.netlist.specs.Shape.{visit, combReads}
 use Rattle.netlist.specs.Netlist.{cellIn}
 use Rattle.design.specs.Queue.{netIn}
-use Rattle.order_laws.specs.Members.{All}
-use Rattle.order_laws.proofs.Members.{all-imp}
+use Rattle.basics.specs.Lists.{All}
+use Rattle.basics.proofs.Members.{all-imp}
 use Rattle.levels_laws.specs.Algebra.{netValue, controlValue, cellValue, Fits, Before, Ranked}
 use Rattle.levels_laws.specs.Instances.{kleene}
 use Rattle.levels_laws.proofs.Operands.{value-const, value-slot}

@@ -17,20 +17,23 @@ use Rattle.cell.specs.declared.Cell.the-variants.{Input}
 use Rattle.netlist.specs.Shape.{visit, visitMut, hasEffects}
 use Rattle.netlist.specs.Netlist.{cellIn}
 use Rattle.order.specs.Orders.{bitDeps, topoSort}
-use Rattle.design.specs.declared.Found.the-variants.{At}
-use Rattle.design.specs.Queue.{Design, Entry, netIn, mapNetNew, findNewCell, replaceNet, replaceCell, seek}
+use Rattle.numberer.specs.declared.Found.the-variants.{At}
+use Rattle.design.specs.Queue.{Design, netIn, mapNetNew, findNewCell, replaceNet, replaceCell}
+use Rattle.numberer.specs.Numberer.{Entry, seek}
 use Rattle.rewrite.specs.Rewriter.{Rewriter, Lookup, begun, findCell, entered, finished}
 use Rattle.rewrite.specs.Rewrite.{Result, none, cell, value, spent, Added, at, unadded, processCell, addCell, Run, ran, stuck, bitDone, cellDone, runItem, run}
-use Rattle.order_laws.specs.Ordered.{has, FedAfter}
-use Rattle.order_laws.specs.Members.{All, Wired}
+use Rattle.basics.specs.Lists.{has, All}
+use Rattle.order_laws.specs.Ordered.{FedAfter}
+use Rattle.order_laws.specs.Members.{Wired}
 use Rattle.order_laws.proofs.Bits.{topoSort-each}
-use Rattle.order_laws.proofs.Truth.{never}
+use Rattle.basics.proofs.Truth.{never}
 use Rattle.order_laws.proofs.Queue.{seek-snoc}
 use Rattle.order_laws.proofs.Sorts.{gate-other}
-use Rattle.order_laws.proofs.Members.{has-snoc}
+use Rattle.basics.proofs.Members.{has-snoc}
 use Rattle.rewrite_laws.proofs.Kept.{Keeps, KeptResult, KeptAdded, processCell-kept, addCell-kept}
-use Rattle.rewrite_laws.proofs.Settled.{limit, tickets, StandsFor, Inv}
-use Rattle.rewrite_laws.proofs.Keeping.{State, P, Q, N, keeping}
+use Rattle.rewrite_laws.proofs.Settled.{limit}
+use Rattle.rewrite_laws.specs.State.{tickets, StandsFor, Inv, State}
+use Rattle.rewrite_laws.proofs.Keeping.{P, Q, N, keeping}
 use Rattle.rewrite_laws.proofs.Running.{RunOk, c-effects, c-settled, item-ok, begun-state}
 use Rattle.rewrite_laws.proofs.Items.{Along, FewSlots, Next, few-item, gate-done, item-by, port-done, run-along}
 use Rattle.levels_laws.specs.Algebra.{cellValue}

@@ -17,9 +17,10 @@ use Rattle.netlist.specs.Shape.{isSource}
 use Rattle.netlist.specs.Netlist.{cellIn}
 use Rattle.design.specs.Queue.{netIn, drivenTo, followed, mapNetNew, applied}
 use Rattle.rewrite.specs.Rewriter.{Rewriter}
-use Rattle.order_laws.proofs.Truth.{either}
+use Rattle.basics.proofs.Truth.{either}
 use Rattle.order_laws.proofs.Queue.{applied-at, applied-length, followed-final, followed-first, mapped-final, replacement}
-use Rattle.rewrite_laws.proofs.Settled.{limit, stamped-inside, StandsFor, Inv}
+use Rattle.rewrite_laws.proofs.Settled.{limit, stamped-inside}
+use Rattle.rewrite_laws.specs.State.{StandsFor, Inv}
 use Rattle.accepted_laws.proofs.Final.{mapNetNew-final}
 use Rattle.levels_laws.specs.Algebra.{netValue, cellValue, Fits}
 use Rattle.levels_laws.specs.Instances.{kleene}

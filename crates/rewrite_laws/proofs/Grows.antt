@@ -2,7 +2,7 @@
 use mathlib.Core.Path.{_≡_, refl, sym, ap, _∙_}
 use mathlib.Core.Bool.{Bool, true, false, cond}
 use mathlib.Core.List.{List, [], _∷_, _++_, append-assoc, append-nil}
-use Prim.Native.Nat.{ℕ, suc, _+_, _≤_, _<_}
+use Prim.Native.Nat.{ℕ, suc, _≤_, _<_}
 use native.Mathlib.Omega.{arith}
 use lib.ListN.{length, length-append, length-set, List·getD-append}
 use lib.Seq.{getD-set-other}
@@ -15,8 +15,8 @@ use Rattle.normalize.specs.declared.Outcome.{Outcome}
 use Rattle.normalize.specs.declared.Outcome.the-variants.{None, Value, Form, Add, NotOf, AddNotOf}
 use Rattle.rewrite.specs.Rewriter.{Rewriter, Lookup, entered, finished}
 use Rattle.rewrite.specs.Rewrite.{rules, Result, none, cell, value, spent, Added, at, unadded, process, processCell, addCell, Run, ran, stuck, bitDone, cellDone, runItem, andThen, runItems, slotsOf}
-use Rattle.order_laws.specs.Ordered.{has}
-use Rattle.order_laws.proofs.Members.{has-first, has-later}
+use Rattle.basics.specs.Lists.{has}
+use Rattle.basics.proofs.Members.{has-first, has-later}
 use Rattle.aig_laws.specs.Reads.{GoodOutcome}
 use Rattle.rewrite_laws.proofs.Kept.{Keeps, KeptResult, KeptAdded, process-kept, addCell-kept}
 

@@ -1,4 +1,5 @@
 -- The run, item by item: what each item keeps, the run keeps. Assumes nothing.
+use Rattle.normalize.specs.Outcomes.{_orElse_}
 use mathlib.Core.Path.{_≡_, refl, sym, ap, _∙_, subst}
 use mathlib.Core.Bool.{Bool, true, false, cond, false≢true}
 use mathlib.Core.List.{List, [], _∷_, _++_, append-assoc, append-nil}
@@ -12,18 +13,19 @@ use Rattle.cell.specs.declared.Cell.the-variants.{Input, Output, Buf, Not, And,
 use Rattle.netlist.specs.Shape.{visitMut, hasEffects, isSplittable}
 use Rattle.netlist.specs.Netlist.{cellIn}
 use Rattle.order.specs.Orders.{bitDeps, topoSort}
-use Rattle.design.specs.declared.Found.{Found}
-use Rattle.design.specs.declared.Found.the-variants.{Nothing, At}
-use Rattle.design.specs.Queue.{netIn, mapNetNew, seek}
+use Rattle.numberer.specs.declared.Found.{Found}
+use Rattle.numberer.specs.declared.Found.the-variants.{Nothing, At}
+use Rattle.design.specs.Queue.{netIn, mapNetNew}
+use Rattle.numberer.specs.Numberer.{seek}
 use Rattle.normalize.specs.declared.Outcome.the-variants.{None}
-use Rattle.normalize.specs.Outcomes.{_orElse_}
 use Rattle.normalize.specs.Normalize.{normalize}
 use Rattle.aig.specs.Aig.{simpleAigOpt}
 use Rattle.rewrite.specs.Rewriter.{Rewriter, Lookup, finished, weight, begun}
 use Rattle.rewrite.specs.Rewrite.{rules, none, asked, enter, perform, goOn, process, processCell, addCell, Run, ran, stuck, bitDone, cellDone, andThen, runItem, runItems, run}
-use Rattle.order_laws.specs.Ordered.{has, OnceAfter, FedAfter}
-use Rattle.order_laws.proofs.Truth.{either}
-use Rattle.order_laws.proofs.Members.{has-first, has-later}
+use Rattle.basics.specs.Lists.{has}
+use Rattle.order_laws.specs.Ordered.{OnceAfter, FedAfter}
+use Rattle.basics.proofs.Truth.{either}
+use Rattle.basics.proofs.Members.{has-first, has-later}
 use Rattle.order_laws.proofs.Sorts.{splittable-gate}
 use Rattle.order_laws.proofs.Bits.{topoSort-each}
 use Rattle.rewrite_laws.proofs.Settled.{limit}

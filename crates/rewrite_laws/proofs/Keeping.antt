@@ -1,40 +1,33 @@
 -- What processing keeps in the run with the Rust's look-up, as long as every slot has a net of its own: all that is looked up and answered is
 -- settled. Assumes nothing.
 use mathlib.Core.Path.{_≡_, sym, ap, _∙_, subst}
-use mathlib.Core.Bool.{true, false}
+use mathlib.Core.Bool.{false}
 use mathlib.Core.List.{List, [], _∷_, _++_}
 use mathlib.Core.Logic.{_⊎_, inl, inr}
-use Prim.Native.Nat.{ℕ, suc, _+_, _-_, _<_}
+use Prim.Native.Nat.{ℕ, suc, _<_}
 use native.Mathlib.Omega.{arith}
 use lib.ListN.{length, getD, length-append, List·getD-append}
 use Rattle.value.specs.declared.Net.{Net}
 use Rattle.cell.specs.declared.Cell.{Cell}
 use Rattle.netlist.specs.Shape.{hasEffects}
-use Rattle.netlist.specs.Netlist.{cellIn}
-use Rattle.design.specs.declared.Found.the-variants.{At}
-use Rattle.design.specs.Queue.{netIn, findNewCell, seek}
+use Rattle.numberer.specs.declared.Found.the-variants.{At}
+use Rattle.design.specs.Queue.{netIn, findNewCell}
+use Rattle.numberer.specs.Numberer.{seek}
 use Rattle.rewrite.specs.Rewriter.{Rewriter, entered}
 use Rattle.rewrite.specs.Rewrite.{rules}
-use Rattle.order_laws.specs.Ordered.{has}
 use Rattle.order_laws.proofs.Queue.{seek-snoc}
 use Rattle.aig_laws.specs.Reads.{GateOf}
 use Rattle.rewrite_laws.proofs.Kept.{Keeps, delayed, inverse-reads, rules-read}
-use Rattle.rewrite_laws.proofs.Settled.{limit, tickets, Settled, Inv, found-settled, settled-constants}
+use Rattle.rewrite_laws.proofs.Settled.{limit, found-settled, settled-constants}
+use Rattle.rewrite_laws.specs.State.{Settled, State, tickets}
 use Rattle.rewrite_laws.proofs.Steps.{later-settled, entered-later, entered-inv, entered-settled}
 use Rattle.rewrite_laws.proofs.Items.{FewSlots}
 
 module _ (cs₀ : List Cell) where
-  -- the state after the items `before`
-  pub record State (before : List ℕ) (r : Rewriter) : Type 0 where
-    pub inv : Inv cs₀ r
-    pub known : (c : Cell) (m : Net) → seek (r .cache) c ≡ At m → Settled cs₀ (r .stamps) m × (hasEffects c ≡ false)
-    pub done : (i : ℕ) → i < tickets cs₀ → has i before ≡ true → hasEffects (cellIn cs₀ i) ≡ false → 0 < getD (r .stamps) i 0
-    pub waiting : (i : ℕ) → i < tickets cs₀ → has i before ≡ false → getD (r .stamps) i 0 ≡ 0
-
   -- what processing keeps, as long as the slots are few
   module _ (before : List ℕ) where
     abbrev pub P : Rewriter → Type 0
-    P r = FewSlots r → State before r
+    P r = FewSlots r → State cs₀ before r
 
     abbrev pub Q : Rewriter → Cell → Type 0
     Q r c = FewSlots r → GateOf (Settled cs₀ (r .stamps)) c
@@ -51,7 +44,7 @@ module _ (cs₀ : List Cell) where
       unfolding entered
       room = omega (arith, few, length-append (r .design .cells) (c ∷ []))
 
-      st : State before r
+      st : State cs₀ before r
       st = p (omega (arith, room))
 
       gate : GateOf (Settled cs₀ (r .stamps)) c
@@ -72,7 +65,7 @@ module _ (cs₀ : List Cell) where
               (later-settled cs₀ (r .stamps) ts′ (entered-later cs₀ r (st .inv) c m) y (k .0) .0, k .1)
           go (inr f) = (subst (Settled cs₀ ts′) (f .1) (entered-settled cs₀ r (st .inv) c m room), ap hasEffects (sym (f .0)) ∙ gate .1)
 
-      entered-state : State before (entered r c m)
+      entered-state : State cs₀ before (entered r c m)
       unfolding entered
       entered-state = record {
         inv = entered-inv cs₀ r (st .inv) c m (gate .0);

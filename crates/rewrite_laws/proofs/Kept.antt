@@ -9,16 +9,17 @@ use Rattle.value.specs.Value.{UNDEF, ZERO, ONE}
 use Rattle.cell.specs.declared.Cell.{Cell}
 use Rattle.cell.specs.declared.Cell.the-variants.{Not}
 use Rattle.netlist.specs.Shape.{visit, hasEffects}
-use Rattle.design.specs.declared.Found.{Found}
-use Rattle.design.specs.declared.Found.the-variants.{Nothing, At}
-use Rattle.design.specs.Queue.{netIn, seek}
+use Rattle.numberer.specs.declared.Found.{Found}
+use Rattle.numberer.specs.declared.Found.the-variants.{Nothing, At}
+use Rattle.design.specs.Queue.{netIn}
+use Rattle.numberer.specs.Numberer.{seek}
 use Rattle.normalize.specs.declared.Outcome.{Outcome}
 use Rattle.normalize.specs.declared.Outcome.the-variants.{None, Value, Form, Add, NotOf, AddNotOf}
 use Rattle.normalize.specs.Normalize.{normalize}
 use Rattle.aig.specs.Aig.{simpleAigOpt}
 use Rattle.rewrite.specs.Rewriter.{Rewriter, Lookup, entered, findCell}
 use Rattle.rewrite.specs.Rewrite.{rules, Result, none, cell, value, spent, Added, at, unadded, asValue, asNot, addNot, perform, enter, asked, replacing, goOn, process, processCell, addCell}
-use Rattle.order_laws.specs.Members.{All}
+use Rattle.basics.specs.Lists.{All}
 use Rattle.aig_laws.specs.Reads.{GoodOutcome, GateOf, SourceNets}
 use Rattle.aig_laws.proofs.Strings.{has-orElse}
 use Rattle.aig_laws.proofs.Reading.{normalize-reads, simple-reads}

@@ -4,7 +4,7 @@ use mathlib.Core.Path.{_≡_, refl, sym, ap, _∙_, subst}
 use mathlib.Core.Bool.{true, false, false≢true}
 use mathlib.Core.List.{List, [], _∷_, _++_, append-nil}
 use mathlib.Core.Logic.{_⊎_, inl, inr}
-use Prim.Native.Nat.{ℕ, suc, _+_, _<_}
+use Prim.Native.Nat.{ℕ, suc, _<_}
 use native.Mathlib.Omega.{arith}
 use lib.Dec.{eqb}
 use lib.ListN.{length, getD, set, length-set, length-replicate}
@@ -13,30 +13,32 @@ use borrow.Author.Tests.{eqb-true, eqb-false}
 use Rattle.value.specs.declared.Net.{Net}
 use Rattle.cell.specs.declared.Cell.{Cell}
 use Rattle.cell.specs.declared.Cell.the-variants.{Input}
-use Rattle.cell.proofs.Lists.{tabulate-at, tabulate-length}
+use Rattle.basics.proofs.Tables.{tabulate-at, tabulate-length}
 use Rattle.netlist.specs.Shape.{visit, visitMut, isSource, hasEffects}
 use Rattle.netlist.specs.Netlist.{cellIn}
 use Rattle.order.specs.Orders.{bitDeps, topoSort}
-use Rattle.design.specs.declared.Found.the-variants.{At}
-use Rattle.design.specs.Queue.{Design, Entry, netIn, unchanged, mapNetNew, findNewCell, replaceNet, replaceCell, seek}
+use Rattle.numberer.specs.declared.Found.the-variants.{At}
+use Rattle.design.specs.Queue.{Design, netIn, unchanged, mapNetNew, findNewCell, replaceNet, replaceCell}
+use Rattle.numberer.specs.Numberer.{Entry, seek}
 use Rattle.rewrite.specs.Rewriter.{Rewriter, begun, stamp, finished}
 use Rattle.rewrite.specs.Rewrite.{Result, none, cell, value, spent, Added, at, unadded, processCell, addCell, Run, bitDone, cellDone, runItem, runItems, run}
-use Rattle.order_laws.specs.Ordered.{has}
-use Rattle.order_laws.specs.Members.{All, Drives, Wired}
+use Rattle.basics.specs.Lists.{has, All}
+use Rattle.order_laws.specs.Members.{Drives, Wired}
 use Rattle.order_laws.proofs.Bits.{reads-deps, topoSort-fed}
-use Rattle.order_laws.proofs.Truth.{either, never}
-use Rattle.order_laws.proofs.Members.{has-snoc, has-snoc-same, has-snoc-other, all-imp, all-both, has-snoc-old}
+use Rattle.basics.proofs.Truth.{either, never}
+use Rattle.basics.proofs.Members.{has-snoc, has-snoc-same, has-snoc-other, all-imp, all-both, has-snoc-old}
 use Rattle.order_laws.proofs.Operands.{drives-in, visited-all}
 use Rattle.order_laws.proofs.Sorts.{effects-mapped, other-gate, gate-other}
 use Rattle.order_laws.proofs.Queue.{seek-snoc}
-use Rattle.order_laws.proofs.Lists.{getD-same}
+use Rattle.basics.proofs.Indices.{getD-same}
 use Rattle.aig_laws.specs.Reads.{GateOf}
 use Rattle.rewrite_laws.proofs.Fuel.{Ended, Entered, processCell-ended, addCell-entered}
 use Rattle.rewrite_laws.proofs.Kept.{KeptResult, KeptAdded, processCell-kept, addCell-kept}
-use Rattle.rewrite_laws.proofs.Settled.{tickets, SettledSlot, Settled, Inv, map-settled, stamped}
+use Rattle.rewrite_laws.specs.State.{tickets, SettledSlot, Settled, Inv, State}
+use Rattle.rewrite_laws.proofs.Settled.{map-settled, stamped}
 use Rattle.rewrite_laws.proofs.Steps.{later-settled, finished-later, finished-inv}
 use Rattle.rewrite_laws.proofs.Items.{Along, FewSlots, few-item, gate-done, item-by, port-done, part-along}
-use Rattle.rewrite_laws.proofs.Keeping.{State, P, Q, N, keeping}
+use Rattle.rewrite_laws.proofs.Keeping.{P, Q, N, keeping}
 
 module _ (cs₀ : List Cell) where
   -- the operands of a ticket's cell, after those that it depends on

@@ -3,8 +3,8 @@
 use mathlib.Core.Path.{_≡_, refl, sym, ap, _∙_, subst}
 use mathlib.Core.Bool.{Bool, true, false, cond}
 use mathlib.Core.List.{List}
-use mathlib.Core.Logic.{_⊎_, inl, inr}
-use Prim.Native.Nat.{ℕ, _-_, _≤_, _<_}
+use mathlib.Core.Logic.{inl, inr}
+use Prim.Native.Nat.{ℕ, _≤_, _<_}
 use native.Mathlib.Omega.{arith}
 use lib.Dec.{eqb, ltb}
 use lib.ListN.{length, getD, List·getD-eq-default}
@@ -18,21 +18,23 @@ use Rattle.value.specs.declared.Driver.the-variants as driven
 use Rattle.value.specs.Value.{driver, UNDEF, ZERO, ONE, fromTrit}
 use Rattle.value.proofs.Laws.{cell-driver, driver-const}
 use Rattle.cell.specs.declared.Cell.{Cell}
-use Rattle.netlist.specs.Shape.{visit, isSource}
+use Rattle.netlist.specs.Shape.{visit}
 use Rattle.netlist.specs.Netlist.{cellIn}
 use Rattle.netlist.proofs.Sources.{source-reads-nothing}
 use Rattle.design.specs.declared.Source.{Source}
 use Rattle.design.specs.declared.Source.the-variants.{Opaque, Known}
-use Rattle.design.specs.Queue.{netIn, drivenTo, mapNetNew, sourceIn, findNewCell}
+use Rattle.design.specs.Queue.{drivenTo, mapNetNew, sourceIn, findNewCell}
 use Rattle.rewrite.specs.Rewriter.{Rewriter, stampIn, stamp, findCell}
-use Rattle.order_laws.specs.Members.{All, Drives}
-use Rattle.order_laws.proofs.Truth.{either}
-use Rattle.order_laws.proofs.Members.{all-imp}
+use Rattle.basics.specs.Lists.{All}
+use Rattle.order_laws.specs.Members.{Drives}
+use Rattle.basics.proofs.Truth.{either}
+use Rattle.basics.proofs.Members.{all-imp}
 use Rattle.order_laws.proofs.Operands.{drives-none, none-read}
 use Rattle.order_laws.proofs.Queue.{mapped-keeps, replacement}
-use Rattle.order_laws.proofs.Lists.{getD-inside}
+use Rattle.basics.proofs.Indices.{getD-inside}
 use Rattle.aig_laws.specs.Reads.{SourceNets}
 use Rattle.rewrite_laws.specs.Stamps.{SourceBefore, Stamped}
+use Rattle.rewrite_laws.specs.State.{SettledSlot, Settled, Under, StandsFor, Inv}
 
 -- the number of slots up to which each has a net of its own
 abbrev pub limit : ℕ
@@ -47,39 +49,13 @@ unfolding stamp
 stamp-driven ts m s e = ap (stampIn ts) e
 
 module _ (cs₀ : List Cell) where
-  abbrev pub tickets : ℕ
-  tickets = length cs₀
-
-  abbrev pub SettledSlot : List ℕ → ℕ → Type 0
-  SettledSlot ts s = ((s < tickets) × (isSource (cellIn cs₀ s) ≡ true)) ⊎ (0 < getD ts s 0)
-
-  unfoldable pub Settled : List ℕ → Net → Type 0
-  Settled ts = Drives (SettledSlot ts)
-
-  pub settled-constants : (ts : List ℕ) → Settled ts UNDEF × Settled ts ZERO × Settled ts ONE
+  pub settled-constants : (ts : List ℕ) → Settled cs₀ ts UNDEF × Settled cs₀ ts ZERO × Settled cs₀ ts ONE
   unfolding Settled
   settled-constants ts =
-      let none : (t : Trit) → Drives (SettledSlot ts) (fromTrit t) = λ t. drives-none (SettledSlot ts) (fromTrit t) t (driver-const t) in
+      let none : (t : Trit) → Drives (SettledSlot cs₀ ts) (fromTrit t) = λ t. drives-none (SettledSlot cs₀ ts) (fromTrit t) t (driver-const t) in
       (none Undef, none Zero, none One)
 
-  abbrev pub Under : List ℕ → ℕ → Net → Type 0
-  Under ts b m = Settled ts m × (stamp ts m < b)
-
-  -- the net that stands for slot i
-  abbrev pub StandsFor : List ℕ → ℕ → Net → Type 0
-  StandsFor ts i m = (m ≡ netIn i) ⊎ ((0 < getD ts i 0) × Settled ts m × (stamp ts m < getD ts i 0))
-
-  pub record Inv (r : Rewriter) : Type 0 where
-    pub sizes : length (r .stamps) ≡ length (r .design .cells)
-    pub many : tickets ≤ length (r .design .cells)
-    pub wide : length (r .design .replaced) ≡ tickets
-    pub clocked : (i : ℕ) → getD (r .stamps) i 0 ≤ r .clock
-    pub sources : (i : ℕ) → i < tickets → isSource (cellIn cs₀ i) ≡ true → getD (r .stamps) i 0 ≡ 0
-    pub untouched : (i : ℕ) → i < tickets → getD (r .stamps) i 0 ≡ 0 → cellIn (r .design .cells) i ≡ cellIn cs₀ i
-    pub fed : (i : ℕ) → 0 < getD (r .stamps) i 0 → All (Under (r .stamps) (getD (r .stamps) i 0)) (visit (cellIn (r .design .cells) i))
-    pub stands : (i : ℕ) (d : Net) → i < tickets → StandsFor (r .stamps) i (getD (r .design .replaced) i d)
-
-  module _ (r : Rewriter) (inv : Inv r) where
+  module _ (r : Rewriter) (inv : Inv cs₀ r) where
     abbrev ts : List ℕ
     ts = r .stamps
 
@@ -88,51 +64,51 @@ module _ (cs₀ : List Cell) where
 
     -- one replacement, and all of them
     abbrev Follows : Net → Net → Type 0
-    Follows m m′ = Settled ts m′ × (stamp ts m′ ≤ stamp ts m)
+    Follows m m′ = Settled cs₀ ts m′ × (stamp ts m′ ≤ stamp ts m)
 
-    one-step : (m : Net) → Settled ts m → Follows m (replacement rs m)
+    one-step : (m : Net) → Settled cs₀ ts m → Follows m (replacement rs m)
     one-step m h = go (driver m) refl
       where
         same : (m′ : Net) → m′ ≡ m → Follows m m′
         same m′ q = subst (Follows m) (sym q) (h, omega arith)
 
-        slot : (s : Slot) → driver m ≡ driven.Cell s → StandsFor ts (s .0) (getD rs (s .0) m) → Follows m (getD rs (s .0) m)
+        slot : (s : Slot) → driver m ≡ driven.Cell s → StandsFor cs₀ ts (s .0) (getD rs (s .0) m) → Follows m (getD rs (s .0) m)
         slot s e (inl f) = same (getD rs (s .0) m) (f ∙ sym (cell-driver m s e))
         slot s e (inr f) = (f .1, omega (arith, f .2, stamp-driven ts m s e))
 
         go : (x : Driver) → driver m ≡ x → Follows m (drivenTo rs m x)
         go (driven.Const t) e = same m refl
-        go (driven.Cell s) e = either (ltb (s .0) tickets)
-            (λ l. slot s e (inv .stands (s .0) m (ltb-true (s .0) tickets l)))
-            (λ l. same (getD rs (s .0) m) (List·getD-eq-default rs m {n = s .0} (omega (arith, inv .wide, ltb-false (s .0) tickets l))))
+        go (driven.Cell s) e = either (ltb (s .0) (length cs₀))
+            (λ l. slot s e (inv .stands (s .0) m (ltb-true (s .0) (length cs₀) l)))
+            (λ l. same (getD rs (s .0) m) (List·getD-eq-default rs m {n = s .0} (omega (arith, inv .wide, ltb-false (s .0) (length cs₀) l))))
 
-    follows : (m : Net) → Settled ts m → Follows m (mapNetNew rs m)
+    follows : (m : Net) → Settled cs₀ ts m → Follows m (mapNetNew rs m)
     follows m h =
         mapped-keeps rs (Follows m) (λ n f. let g : Follows n (replacement rs n) = one-step n (f .0) in (g .0, omega (arith, f .1, g .1))) m (h, omega arith)
 
-    pub map-settled : (m : Net) → Settled ts m → Settled ts (mapNetNew rs m)
+    pub map-settled : (m : Net) → Settled cs₀ ts m → Settled cs₀ ts (mapNetNew rs m)
     map-settled m h = follows m h .0
 
-    pub map-lower : (m : Net) → Settled ts m → stamp ts (mapNetNew rs m) ≤ stamp ts m
+    pub map-lower : (m : Net) → Settled cs₀ ts m → stamp ts (mapNetNew rs m) ≤ stamp ts m
     map-lower m h = follows m h .1
 
     -- what a look-up of a settled net gives
-    pub look-good : (m : Net) → Settled ts m → SourceNets (Under ts (stamp ts m)) (findNewCell (r .design) m)
+    pub look-good : (m : Net) → Settled cs₀ ts m → SourceNets (Under cs₀ ts (stamp ts m)) (findNewCell (r .design) m)
     unfolding findNewCell Settled
     look-good m h = by (mapNetNew rs m) (follows m h) (driver (mapNetNew rs m)) refl
       where
-        slot : (s : ℕ) → getD ts s 0 ≤ stamp ts m → SettledSlot ts s → All (Under ts (stamp ts m)) (visit (cellIn (r .design .cells) s))
+        slot : (s : ℕ) → getD ts s 0 ≤ stamp ts m → SettledSlot cs₀ ts s → All (Under cs₀ ts (stamp ts m)) (visit (cellIn (r .design .cells) s))
         slot s l (inl i) =
-            rw (inv .untouched s (i .0) (inv .sources s (i .0) (i .1))) (none-read (Under ts (stamp ts m)) (cellIn cs₀ s) (source-reads-nothing (cellIn cs₀ s) (i .1)))
+            rw (inv .untouched s (i .0) (inv .sources s (i .0) (i .1))) (none-read (Under cs₀ ts (stamp ts m)) (cellIn cs₀ s) (source-reads-nothing (cellIn cs₀ s) (i .1)))
         slot s l (inr p) =
-            all-imp (Under ts (getD ts s 0)) (Under ts (stamp ts m)) (λ o u. (u .0, omega (arith, u .1, l))) (visit (cellIn (r .design .cells) s)) (inv .fed s p)
+            all-imp (Under cs₀ ts (getD ts s 0)) (Under cs₀ ts (stamp ts m)) (λ o u. (u .0, omega (arith, u .1, l))) (visit (cellIn (r .design .cells) s)) (inv .fed s p)
 
-        by : (y : Net) → Follows m y → (x : Driver) → driver y ≡ x → SourceNets (Under ts (stamp ts m)) (sourceIn (r .design .cells) x)
+        by : (y : Net) → Follows m y → (x : Driver) → driver y ≡ x → SourceNets (Under cs₀ ts (stamp ts m)) (sourceIn (r .design .cells) x)
         by y f (driven.Const t) e = tt
         by y f (driven.Cell s) e = slot (s .0) (omega (arith, f .1, stamp-driven ts y s e)) (f .0 s e)
 
     -- a net with a stamp is settled
-    pub stamped-settled : (m : Net) → 0 < stamp ts m → Settled ts m
+    pub stamped-settled : (m : Net) → 0 < stamp ts m → Settled cs₀ ts m
     unfolding Settled
     stamped-settled m h s e = inr (omega (arith, h, stamp-driven ts m s e))
 
@@ -148,13 +124,13 @@ module _ (cs₀ : List Cell) where
         go : (b : Bool) → eqb (stamp ts m) 0 ≡ b → SourceBefore ts (stamp ts m) (cond b Opaque (findNewCell (r .design) m))
         go true e = tt
         go false e =
-            source-map (Under ts (stamp ts m)) (λ n. stamp ts n < stamp ts m) (λ n u. u .1) (findNewCell (r .design) m)
+            source-map (Under cs₀ ts (stamp ts m)) (λ n. stamp ts n < stamp ts m) (λ n u. u .1) (findNewCell (r .design) m)
             (look-good m (stamped-settled m (omega (arith, eqb-false (stamp ts m) 0 e))))
 
-    pub found-settled : (m : Net) → Settled ts m → SourceNets (Settled ts) (findCell findNewCell r m)
+    pub found-settled : (m : Net) → Settled cs₀ ts m → SourceNets (Settled cs₀ ts) (findCell findNewCell r m)
     unfolding findCell
     found-settled m h = go (eqb (stamp ts m) 0)
       where
-        go : (b : Bool) → SourceNets (Settled ts) (cond b Opaque (findNewCell (r .design) m))
+        go : (b : Bool) → SourceNets (Settled cs₀ ts) (cond b Opaque (findNewCell (r .design) m))
         go true = tt
-        go false = source-map (Under ts (stamp ts m)) (Settled ts) (λ n u. u .0) (findNewCell (r .design) m) (look-good m h)
+        go false = source-map (Under cs₀ ts (stamp ts m)) (Settled cs₀ ts) (λ n u. u .0) (findNewCell (r .design) m) (look-good m h)

@@ -3,7 +3,7 @@ use mathlib.Core.Path.{_≡_, refl, sym, ap, _∙_}
 use mathlib.Core.Bool.{false, true≢false}
 use mathlib.Core.List.{List, [], _∷_, _++_}
 use mathlib.Core.Logic.{_⊎_, inl, inr}
-use Prim.Native.Nat.{ℕ, suc, _+_, _-_, _≤_, _<_}
+use Prim.Native.Nat.{ℕ, suc, _+_, _≤_, _<_}
 use native.Mathlib.Omega.{arith}
 use lib.Dec.{eqb, ltb}
 use lib.ListN.{length, getD, set, length-append, length-set, List·getD-append, List·getD-eq-default}
@@ -17,13 +17,15 @@ use Rattle.cell.specs.declared.Cell.{Cell}
 use Rattle.cell.specs.declared.Cell.the-variants.{Input}
 use Rattle.netlist.specs.Shape.{visit, isSource}
 use Rattle.netlist.specs.Netlist.{cellIn}
-use Rattle.design.specs.Queue.{Design, Entry, netIn}
+use Rattle.design.specs.Queue.{Design, netIn}
+use Rattle.numberer.specs.Numberer.{Entry}
 use Rattle.rewrite.specs.Rewriter.{Rewriter, stampIn, stamp, entered, finished}
-use Rattle.order_laws.specs.Members.{All}
-use Rattle.order_laws.proofs.Truth.{either}
-use Rattle.order_laws.proofs.Members.{all-imp}
+use Rattle.basics.specs.Lists.{All}
+use Rattle.basics.proofs.Truth.{either}
+use Rattle.basics.proofs.Members.{all-imp}
 use Rattle.order_laws.proofs.Operands.{drives-in}
-use Rattle.rewrite_laws.proofs.Settled.{limit, stamped-inside, tickets, SettledSlot, Settled, Under, StandsFor, Inv}
+use Rattle.rewrite_laws.proofs.Settled.{limit, stamped-inside}
+use Rattle.rewrite_laws.specs.State.{tickets, SettledSlot, Settled, Under, StandsFor, Inv}
 
 -- one more at the end of a list
 getD-past : {A : Type 0} (xs : List A) (x d : A) (i : ℕ) → length xs < i → getD (xs ++ (x ∷ [])) i d ≡ d

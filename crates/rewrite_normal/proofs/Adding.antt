@@ -15,15 +15,16 @@ use Rattle.cell.specs.declared.Cell.{Cell}
 use Rattle.cell.specs.declared.Cell.the-variants.{Input}
 use Rattle.netlist.specs.Shape.{visit, hasEffects}
 use Rattle.netlist.specs.Netlist.{cellIn}
-use Rattle.design.specs.declared.Found.the-variants.{Nothing, At}
-use Rattle.design.specs.Queue.{netIn, findNewCell, seek}
+use Rattle.numberer.specs.declared.Found.the-variants.{Nothing, At}
+use Rattle.design.specs.Queue.{netIn, findNewCell}
+use Rattle.numberer.specs.Numberer.{seek}
 use Rattle.normalize.specs.declared.Outcome.the-variants.{None}
 use Rattle.normalize.specs.Normalize.{normalize}
 use Rattle.aig.specs.Aig.{simpleAigOpt}
 use Rattle.rewrite.specs.Rewriter.{Rewriter, findCell, entered}
 use Rattle.rewrite.specs.Rewrite.{rules}
-use Rattle.order_laws.proofs.Truth.{either}
-use Rattle.order_laws.proofs.Members.{all-imp}
+use Rattle.basics.proofs.Truth.{either}
+use Rattle.basics.proofs.Members.{all-imp}
 use Rattle.order_laws.proofs.Queue.{seek-snoc, seek-old, seek-new}
 use Rattle.aig_laws.specs.Reads.{GateOf}
 use Rattle.rewrite_laws.proofs.Kept.{Keeps, delayed, inverse-reads, rules-read}

@@ -18,7 +18,7 @@ use Rattle.normalize.specs.declared.Outcome.the-variants.{None, Value, Form, Ad
 use Rattle.normalize.specs.Outcomes.{_orElse_, given}
 use Rattle.normalize.specs.Normalize.{normalize}
 use Rattle.aig.specs.Aig.{aigRule, xorRule, notRule, simpleAigOpt}
-use Rattle.order_laws.specs.Members.{All}
+use Rattle.basics.specs.Lists.{All}
 use Rattle.order_laws.proofs.Sorts.{ByKind}
 use Rattle.normal.specs.Paired.{exchange, Alike}
 use Rattle.rewrite_normal.specs.Plain.{isAig}

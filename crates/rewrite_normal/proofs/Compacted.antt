@@ -22,15 +22,16 @@ use Rattle.netlist.specs.Shape.{visit, visitMut, isInput, hasEffects, isOutput}
 use Rattle.netlist.specs.Netlist.{cellIn}
 use Rattle.design.specs.declared.Source.{Source}
 use Rattle.design.specs.declared.Source.the-variants.{Opaque, Known}
-use Rattle.design.specs.declared.Found.the-variants.{At}
-use Rattle.design.specs.Queue.{netIn, seek}
+use Rattle.numberer.specs.declared.Found.the-variants.{At}
+use Rattle.design.specs.Queue.{netIn}
+use Rattle.numberer.specs.Numberer.{seek}
 use Rattle.compact.specs.Compact.{keep, isKept, keptSlots, countKept, renumbered, netMap, compact}
 use Rattle.normalize.specs.declared.Outcome.the-variants.{None}
 use Rattle.normalize.specs.Normalize.{normalize}
 use Rattle.aig.specs.Aig.{simpleAigOpt}
 use Rattle.order_laws.specs.Members.{Drives}
-use Rattle.order_laws.proofs.Truth.{either, never, or-none}
-use Rattle.order_laws.proofs.Members.{all-imp, all-both}
+use Rattle.basics.proofs.Truth.{either, never, or-none}
+use Rattle.basics.proofs.Members.{all-imp, all-both}
 use Rattle.order_laws.proofs.Sorts.{kindIn, ByKind, effects-by, effects-kind, inputs-by, output-kind, same-sort, sort-kept}
 use Rattle.kept.proofs.Chosen.{chosen, count, count-le, place-of, SlotAt, slot-at}
 use Rattle.kept.proofs.Sound.{Inside, bit-continues}

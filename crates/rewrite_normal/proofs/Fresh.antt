@@ -22,16 +22,17 @@ use Rattle.netlist.specs.Shape.{visit, isSource, isOutput, hasEffects}
 use Rattle.netlist.specs.Netlist.{cellIn}
 use Rattle.design.specs.declared.Source.{Source}
 use Rattle.design.specs.declared.Source.the-variants.{Opaque, Known}
-use Rattle.design.specs.declared.Found.the-variants.{At}
-use Rattle.design.specs.Queue.{netIn, drivenTo, mapNetNew, sourceIn, findNewCell, seek}
+use Rattle.numberer.specs.declared.Found.the-variants.{At}
+use Rattle.design.specs.Queue.{netIn, drivenTo, mapNetNew, sourceIn, findNewCell}
+use Rattle.numberer.specs.Numberer.{seek}
 use Rattle.normalize.specs.declared.Outcome.the-variants.{None}
 use Rattle.normalize.specs.Normalize.{normalize}
 use Rattle.aig.specs.Aig.{simpleAigOpt}
 use Rattle.rewrite.specs.Rewriter.{Rewriter, stampIn, stamp, findCell}
-use Rattle.order_laws.specs.Ordered.{has}
+use Rattle.basics.specs.Lists.{has}
 use Rattle.order_laws.specs.Members.{Drives}
-use Rattle.order_laws.proofs.Truth.{either}
-use Rattle.order_laws.proofs.Members.{all-imp}
+use Rattle.basics.proofs.Truth.{either}
+use Rattle.basics.proofs.Members.{all-imp}
 use Rattle.order_laws.proofs.Operands.{drives-at, drives-in, drives-none}
 use Rattle.order_laws.proofs.Sorts.{other-gate, source-effects}
 use Rattle.order_laws.proofs.Queue.{mapped-final, mapped-once, replacement}

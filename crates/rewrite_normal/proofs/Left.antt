@@ -17,13 +17,14 @@ use Rattle.order.specs.Orders.{topoSort}
 use Rattle.design.specs.Queue.{applied}
 use Rattle.compact.specs.Compact.{keep, isKept}
 use Rattle.rewrite.specs.Rewriter.{Rewriter}
-use Rattle.order_laws.specs.Members.{All, Drives}
-use Rattle.order_laws.proofs.Truth.{either}
+use Rattle.basics.specs.Lists.{All}
+use Rattle.order_laws.specs.Members.{Drives}
+use Rattle.basics.proofs.Truth.{either}
 use Rattle.order_laws.proofs.Sorts.{effects-mapped, source-effects, effects-by}
-use Rattle.order_laws.proofs.Members.{all-imp}
+use Rattle.basics.proofs.Members.{all-imp}
 use Rattle.order_laws.proofs.Operands.{visited-all}
 use Rattle.order_laws.proofs.Queue.{applied-at, applied-length}
-use Rattle.order_laws.proofs.Lists.{getD-padded}
+use Rattle.basics.proofs.Indices.{getD-padded}
 use Rattle.kept.proofs.Sound.{Sound, Bit, output-bits, start-inside, start-kind, same-by, sound-wired}
 use Rattle.kept.proofs.Keep.{marked-has}
 use Rattle.rewrite_sound.proofs.Operands.{follow}

@@ -3,7 +3,7 @@
 use mathlib.Core.Path.{_≡_, refl, sym, ap, _∙_, subst}
 use mathlib.Core.Bool.{true, false, true≢false, false≢true, _&&_}
 use mathlib.Core.List.{List, [], _∷_, _++_}
-use Prim.Native.Nat.{ℕ, suc, _+_, _≤_, _<_}
+use Prim.Native.Nat.{ℕ, suc, _≤_, _<_}
 use native.Mathlib.Omega.{arith}
 use lib.Dec.{eqb, leb}
 use lib.ListN.{length, getD, set, length-set, length-replicate, getD-replicate}
@@ -11,18 +11,19 @@ use lib.Seq.{getD-set-same, getD-set-other}
 use borrow.Author.Tests.{eqb-true, eqb-false, le-leb, leb-false, leb-true}
 use Rattle.value.specs.declared.Net.{Net}
 use Rattle.cell.specs.declared.Cell.{Cell}
-use Rattle.cell.proofs.Lists.{tabulate-length, tabulate-at}
+use Rattle.basics.proofs.Tables.{tabulate-length, tabulate-at}
 use Rattle.netlist.specs.Shape.{visit, visitMut, hasEffects, isSplittable}
 use Rattle.netlist.specs.Netlist.{cellIn}
 use Rattle.order.specs.Orders.{bitDeps, topoSort}
-use Rattle.design.specs.Queue.{netIn, unchanged, mapNetNew, findNewCell, replaceNet, seek}
+use Rattle.design.specs.Queue.{netIn, unchanged, mapNetNew, findNewCell, replaceNet}
+use Rattle.numberer.specs.Numberer.{seek}
 use Rattle.rewrite.specs.Rewriter.{Rewriter, begun, finished}
 use Rattle.rewrite.specs.Rewrite.{Added, at, unadded, processCell, addCell, Run, bitDone, cellDone, runItem, run}
-use Rattle.order_laws.specs.Ordered.{has}
-use Rattle.order_laws.specs.Members.{All, Wired}
+use Rattle.basics.specs.Lists.{has, All}
+use Rattle.order_laws.specs.Members.{Wired}
 use Rattle.order_laws.proofs.Bits.{topoSort-each, topoSort-fed, reads-deps, sourcesLast}
-use Rattle.order_laws.proofs.Truth.{either, never}
-use Rattle.order_laws.proofs.Members.{has-snoc, has-snoc-other, all-imp, all-both}
+use Rattle.basics.proofs.Truth.{either, never}
+use Rattle.basics.proofs.Members.{has-snoc, has-snoc-other, all-imp, all-both}
 use Rattle.order_laws.proofs.Sorts.{effects-mapped, effects-kind, kind-last, kindIn, sort-kept, splittable-kind}
 use Rattle.order_laws.proofs.Operands.{visited-all}
 use Rattle.rewrite_laws.proofs.Kept.{KeptAdded, addCell-kept}

@@ -16,12 +16,12 @@ use Rattle.netlist.specs.Shape.{visit, visitMut, isOutput, hasEffects}
 use Rattle.netlist.specs.Netlist.{Netlist, cellIn}
 use Rattle.design.specs.Queue.{applied}
 use Rattle.rewrite.specs.Rewriter.{Rewriter}
-use Rattle.order_laws.specs.Members.{All}
-use Rattle.order_laws.proofs.Truth.{either, never}
-use Rattle.order_laws.proofs.Members.{all-imp}
+use Rattle.basics.specs.Lists.{All}
+use Rattle.basics.proofs.Truth.{either, never}
+use Rattle.basics.proofs.Members.{all-imp}
 use Rattle.order_laws.proofs.Operands.{comb-all}
 use Rattle.order_laws.proofs.Sorts.{record-bit, output-mapped, effects-kind, kind-last, splittable-kind}
-use Rattle.order_laws.proofs.Lists.{getD-padded}
+use Rattle.basics.proofs.Indices.{getD-padded}
 use Rattle.order_laws.proofs.Queue.{applied-at, applied-length}
 use Rattle.levels_laws.specs.Algebra.{Before, Ranked}
 use Rattle.kept.proofs.Records.{Continues, sequence-zero, sequence-mapped}

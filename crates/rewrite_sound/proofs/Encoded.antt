@@ -9,10 +9,10 @@ use Rattle.cell.specs.declared.Cell.{Cell}
 use Rattle.cell.specs.declared.Cell.the-variants.{Input, Output, Buf, Not, And, Or, Xor, Mux, Aig}
 use Rattle.cell.specs.Bytes.{bytes16, bytes32}
 use Rattle.cell.specs.Records.{bytesOf, cellRecord}
-use Rattle.netlist.specs.Netlist.{Netlist, joined, encode, ticketOf}
+use Rattle.netlist.specs.Netlist.{Netlist, encode, ticketOf}
+use Rattle.basics.specs.Lists.{joined, All}
 use Rattle.calls.specs.Calls.{encoded}
-use Rattle.order_laws.specs.Members.{All}
-use Rattle.order_laws.proofs.Members.{all-append, all-tabulate}
+use Rattle.basics.proofs.Members.{all-append, all-tabulate}
 use Rattle.kept.specs.Kept.{Bytes}
 use Rattle.kept.proofs.Sound.{recordIn}
 

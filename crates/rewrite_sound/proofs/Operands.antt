@@ -19,16 +19,17 @@ use Rattle.netlist.specs.Netlist.{cellIn}
 use Rattle.order.specs.Orders.{topoSort}
 use Rattle.design.specs.Queue.{mapNetNew, applied}
 use Rattle.rewrite.specs.Rewriter.{Rewriter, stamp}
-use Rattle.order_laws.specs.Members.{All, Wired}
+use Rattle.basics.specs.Lists.{All}
+use Rattle.order_laws.specs.Members.{Wired}
 use Rattle.order_laws.specs.Ends.{Final}
 use Rattle.order_laws.proofs.Bits.{topoSort-each}
-use Rattle.order_laws.proofs.Truth.{either, never}
-use Rattle.order_laws.proofs.Members.{all-imp}
+use Rattle.basics.proofs.Truth.{either, never}
+use Rattle.basics.proofs.Members.{all-imp}
 use Rattle.order_laws.proofs.Operands.{input-reads, visited-all}
 use Rattle.order_laws.proofs.Sorts.{gate-by, gate-parts, other-gate, source-effects, source-no-output}
 use Rattle.order_laws.proofs.Queue.{applied-at, applied-length}
-use Rattle.rewrite_laws.proofs.Settled.{limit, stamped-inside, SettledSlot, Settled, Under, Inv, map-settled, map-lower, stamp-driven}
-use Rattle.rewrite_laws.proofs.Keeping.{State}
+use Rattle.rewrite_laws.proofs.Settled.{limit, stamped-inside, map-settled, map-lower, stamp-driven}
+use Rattle.rewrite_laws.specs.State.{SettledSlot, Settled, Under, Inv, State}
 use Rattle.rewrite_laws.proofs.Steps.{stamp-clocked}
 use Rattle.accepted_laws.proofs.Final.{mapNetNew-final}
 use Rattle.rewrite_sound.proofs.Shaped.{Holds, holds-effects, Shaped}

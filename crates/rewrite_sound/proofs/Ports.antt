@@ -11,13 +11,14 @@ use Rattle.logic.specs.Levels.{levelOf}
 use Rattle.value.specs.declared.Net.{Net}
 use Rattle.cell.specs.declared.Cell.{Cell}
 use Rattle.netlist.specs.Shape.{visitMut, isInput, isOutput, hasEffects}
-use Rattle.netlist.specs.Netlist.{cellIn, slots, those}
+use Rattle.netlist.specs.Netlist.{cellIn}
+use Rattle.basics.specs.Lists.{slots, those}
 use Rattle.design.specs.Queue.{applied}
 use Rattle.rewrite.specs.Rewriter.{Rewriter}
 use Rattle.levels.specs.Evaluate.{givenLevels, inputSlots, outputSlots}
-use Rattle.order_laws.proofs.Truth.{either, never}
+use Rattle.basics.proofs.Truth.{either, never}
 use Rattle.order_laws.proofs.Sorts.{effects-mapped, input-mapped, output-mapped, input-effects, output-effects}
-use Rattle.order_laws.proofs.Members.{those-same, all-tabulate}
+use Rattle.basics.proofs.Members.{those-same, all-tabulate}
 use Rattle.order_laws.proofs.Queue.{applied-at, applied-length}
 use Rattle.kept.proofs.Bytes.{labelOf, label-kept}
 use Rattle.kept.proofs.Chosen.{chosen, chosen-rest}

@@ -14,7 +14,8 @@ use Rattle.compact.specs.Compact.{compact}
 use Rattle.rewrite.specs.Rewriter.{Rewriter, Lookup}
 use Rattle.rewrite.specs.Rewrite.{Run, ran, stuck, run, slotsOf, compacted, rewrite}
 use Rattle.levels.specs.Evaluate.{inputSlots, outputLevels}
-use Rattle.order_laws.specs.Members.{All, Wired}
+use Rattle.basics.specs.Lists.{All}
+use Rattle.order_laws.specs.Members.{Wired}
 use Rattle.order_laws.proofs.Queue.{applied-length}
 use Rattle.rewrite_laws.proofs.Running.{RunOk}
 use Rattle.kept.proofs.Sound.{Sound}

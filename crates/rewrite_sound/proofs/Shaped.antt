@@ -18,16 +18,17 @@ use Rattle.netlist.specs.Netlist.{cellIn}
 use Rattle.order.specs.Orders.{topoSort}
 use Rattle.design.specs.declared.Source.{Source}
 use Rattle.design.specs.declared.Source.the-variants.{Opaque, Known}
-use Rattle.design.specs.declared.Found.the-variants.{At}
-use Rattle.design.specs.Queue.{Design, Entry, netIn, unchanged, mapNetNew, replaceNet, replaceCell, seek}
+use Rattle.numberer.specs.declared.Found.the-variants.{At}
+use Rattle.design.specs.Queue.{Design, netIn, unchanged, mapNetNew, replaceNet, replaceCell}
+use Rattle.numberer.specs.Numberer.{Entry, seek}
 use Rattle.rewrite.specs.Rewriter.{Rewriter, Lookup, begun, findCell, entered, finished}
 use Rattle.rewrite.specs.Rewrite.{Result, none, cell, value, spent, Added, at, unadded, processCell, addCell, Run, bitDone, cellDone, runItem, run}
-use Rattle.order_laws.specs.Members.{All}
+use Rattle.basics.specs.Lists.{All}
 use Rattle.order_laws.proofs.Bits.{topoSort-each}
-use Rattle.order_laws.proofs.Truth.{either, never}
+use Rattle.basics.proofs.Truth.{either, never}
 use Rattle.order_laws.proofs.Sorts.{effects-mapped, sort-kept, splits-by}
 use Rattle.order_laws.proofs.Queue.{seek-snoc}
-use Rattle.order_laws.proofs.Members.{all-every, has-first}
+use Rattle.basics.proofs.Members.{all-every, has-first}
 use Rattle.aig_laws.specs.Reads.{GateOf, SourceNets}
 use Rattle.rewrite_laws.proofs.Kept.{Keeps, KeptResult, KeptAdded, processCell-kept, addCell-kept, inverse-reads, rules-read}
 use Rattle.rewrite_laws.proofs.Items.{Along, below-next, gate-done, item-by, items-along, port-done, Below}

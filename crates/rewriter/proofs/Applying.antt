@@ -12,19 +12,19 @@ use Rattle.value.specs.declared.Driver.{Driver}
 use Rattle.value.specs.declared.Driver.the-variants as driven
 use Rattle.value.specs.Value.{netAt, eqNet, driver}
 use Rattle.value.proofs.Laws.{cell-driver}
-use Rattle.netlist.specs.Areas.{Within, figuresAt, replacedAt, visitedAt}
+use Rattle.netlist.specs.inner.Areas.{Within, figuresAt, replacedAt, visitedAt}
 use Rattle.netlist.specs.Shape.{visitMut}
 use Rattle.netlist.specs.Netlist.{Netlist, netlistOf}
 use Rattle.netlist.proofs.Frames.{within-then, within-wider, records-kept}
 use Rattle.design.specs.Queue.{drivenTo, followed, mapNetNew, applied}
-use Rattle.design.specs.Words.{netlistIn, replacedIn, designIn, appliedIn}
+use Rattle.design.specs.inner.Words.{netlistIn, replacedIn, designIn, appliedIn}
 use Rattle.design.proofs.Words.{replaced-at, replaced-length, replaced-past}
 use Rattle.order_laws.proofs.Queue.{replacement, followed-final, followed-first}
 use Rattle.accepted_laws.proofs.Final.{mapNetNew-final}
 use Rattle.rewriter_state.specs.declared.Extent.{Extent}
-use Rattle.rewriter_state.specs.Words.{rewriterIn, Stands}
-use Rattle.rewriter_cycle.specs.Cycle.{Running}
-use Rattle.rewriter.specs.Run.{AppliesAll}
+use Rattle.rewriter_state.specs.inner.Words.{rewriterIn, Stands}
+use Rattle.rewriter_cycle.specs.inner.Cycle.{Running}
+use Rattle.rewriter.specs.inner.Run.{AppliesAll}
 
 -- replacements that lead to the same nets are followed to the same ones
 module _ (rs rs′ : List Net) (same : (m : Net) → replacement rs′ m ≡ replacement rs m) where

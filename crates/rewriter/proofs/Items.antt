@@ -10,29 +10,29 @@ use Rattle.value.specs.declared.Net.{Net}
 use Rattle.cell.specs.declared.Cell.{Cell}
 use Rattle.cell.specs.declared.Record.{Record}
 use Rattle.cell.specs.Records.{cellOf, cellRecord}
-use Rattle.cell.specs.Tabulate.{tabulate}
+use Rattle.basics.specs.Lists.{tabulate, has}
 use Rattle.cell.proofs.RoundTrips.{cell-back}
-use Rattle.netlist.specs.Areas.{wordRecord, wordsIn, orderAt, Within, keysFrom}
+use Rattle.netlist.specs.inner.Areas.{wordRecord, wordsIn, orderAt, Within, keysFrom}
 use Rattle.netlist.specs.Shape.{visitMut, hasEffects, isSplittable}
 use Rattle.netlist.specs.Netlist.{cellIn}
 use Rattle.order.specs.Orders.{bitDeps}
-use Rattle.design.specs.Queue.{Design, Entry, netIn, mapNetNew, findNewCell, replaceNet, replaceCell}
-use Rattle.netlist.specs.Fields.{renamedFields}
-use Rattle.design.specs.Words.{replacedIn}
+use Rattle.design.specs.Queue.{Design, netIn, mapNetNew, findNewCell, replaceNet, replaceCell}
+use Rattle.numberer.specs.Numberer.{Entry}
+use Rattle.netlist.specs.inner.Fields.{renamedFields}
+use Rattle.design.specs.inner.Words.{replacedIn}
 use Rattle.design.proofs.Words.{cell-at, replaced-length}
 use Rattle.netlist.proofs.Operands.{renamed-cell}
 use Rattle.rewrite.specs.Rewriter.{Rewriter, Lookup, weight, finished}
 use Rattle.rewrite.specs.Rewrite as rewriting
 use Rattle.rewrite.specs.Rewrite.{Run, ran, stuck, bitDone, cellDone, addCell, processCell, runItem, andThen, runItems, slotsOf}
-use Rattle.order_laws.specs.Ordered.{has, OnceAfter, FedAfter}
-use Rattle.order_laws.proofs.Truth.{never, or-right}
-use Rattle.order_laws.proofs.Members.{has-first, has-later, has-append}
+use Rattle.order_laws.specs.Ordered.{OnceAfter, FedAfter}
+use Rattle.basics.proofs.Truth.{never, or-right}
+use Rattle.basics.proofs.Members.{has-first, has-later, has-append}
 use Rattle.aig_laws.specs.Reads.{GateOf}
-use Rattle.rewrite_laws.proofs.Settled.{Settled}
+use Rattle.rewrite_laws.specs.State.{Settled, State}
 use Rattle.rewrite_laws.proofs.Grows.{grown-slots, runItems-grows}
 use Rattle.rewrite_laws.proofs.Running.{RunOk, c-settled, item-ok}
 use Rattle.rewrite_laws.proofs.Items.{item-by, items-cut, items-one, port-done}
-use Rattle.rewrite_laws.proofs.Keeping.{State}
 use Rattle.rewriter_state.specs.declared.Extent.{Extent}
 use Rattle.rewriter_state.specs.declared.Added.{Added}
 use Rattle.rewriter_state.specs.declared.Added.the-variants as added
@@ -40,10 +40,10 @@ use Rattle.rewriter_cycle.specs.declared.Processed.{Processed}
 use Rattle.rewriter_cycle.specs.declared.Processed.the-variants as processed
 use Rattle.rewriter.specs.declared.Step.{Step}
 use Rattle.rewriter.specs.declared.Step.the-variants as step
-use Rattle.rewriter_state.specs.Words.{rewriterIn, Held, ReadySlot, Finishes, Replaces, Stays, Becomes}
-use Rattle.rewriter_cycle.specs.Cycle.{slotsAfter, slotsAdded, Left, Answers, AnswersAdd, Processes, Adds}
+use Rattle.rewriter_state.specs.inner.Words.{rewriterIn, Held, ReadySlot, Finishes, Replaces, Stays, Becomes}
+use Rattle.rewriter_cycle.specs.inner.Cycle.{slotsAfter, slotsAdded, Left, Answers, AnswersAdd, Processes, Adds}
 use Rattle.rewriter_cycle.proofs.Passes.{held-few}
-use Rattle.rewriter.specs.Run.{Between, Went, Goes, ReadyCell, ReadyItem, ReadyItems, RunsBit, RunsCell, RunsItem, RunsItems}
+use Rattle.rewriter.specs.inner.Run.{Between, Went, Goes, ReadyCell, ReadyItem, ReadyItems, RunsBit, RunsCell, RunsItem, RunsItems}
 
 -- from one extent to another
 pub between-none : (x : Extent) (ws : List ℕ) → Held x ws → Between x x ws ws

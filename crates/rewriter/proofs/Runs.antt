@@ -10,38 +10,38 @@ use lib.Seq.{ext-getD}
 use Rattle.cell.specs.declared.Record.{Record}
 use Rattle.cell.specs.declared.Cell.{Cell}
 use Rattle.cell.specs.Records.{cellOf}
-use Rattle.cell.specs.Tabulate.{tabulate}
+use Rattle.basics.specs.Lists.{tabulate, has}
 use Rattle.checking.specs.declared.Verdict.the-variants.{Pass}
 use Rattle.checking.specs.Refusals.{firstOf}
 use Rattle.checking.specs.Checking.{netlistStages}
-use Rattle.netlist.specs.Areas.{wordRecord, recordsIn, wordsIn, orderAt, Within, figuresAt, keysFrom, mixesAt, replacedAt, visitedAt}
+use Rattle.netlist.specs.inner.Areas.{wordRecord, recordsIn, wordsIn, orderAt, Within, figuresAt, keysFrom, mixesAt, replacedAt, visitedAt}
 use Rattle.netlist.specs.Netlist.{Netlist, netlistOf}
 use Rattle.netlist.proofs.Frames.{within-then, within-wider, tabulate-same, words-kept, record-kept}
 use Rattle.order.specs.Orders.{bitDeps, topoSort}
-use Rattle.order.specs.Code.{Sorts}
+use Rattle.order.specs.inner.Code.{Sorts}
 use Rattle.order.proofs.Words.{tabulate-replicate}
 use Rattle.design.specs.Queue.{netIn, unchanged, applied, findNewCell}
 use Rattle.compact.specs.Compact.{compact}
-use Rattle.design.specs.Words.{netlistIn, replacedIn}
+use Rattle.design.specs.inner.Words.{netlistIn, replacedIn}
 use Rattle.design.proofs.Words.{cells-length, bits-length, bit-at}
-use Rattle.numberer.specs.Words.{numbererIn}
+use Rattle.numberer.specs.inner.Words.{numbererIn}
 use Rattle.numberer.proofs.Inserting.{entered-none, mixed-none}
 use Rattle.rewrite.specs.Rewriter.{begun}
 use Rattle.rewrite.specs.Rewrite.{Run, ran, run, runItems, slotsOf, compacted, rewrite}
-use Rattle.order_laws.specs.Ordered.{has, OnceAfter, FedAfter}
-use Rattle.order_laws.proofs.Lists.{getD-padded}
+use Rattle.order_laws.specs.Ordered.{OnceAfter, FedAfter}
+use Rattle.basics.proofs.Indices.{getD-padded}
 use Rattle.order_laws.proofs.Queue.{applied-length}
 use Rattle.rewrite_laws.proofs.Running.{RunOk, begun-state}
-use Rattle.rewrite_laws.proofs.Keeping.{State}
+use Rattle.rewrite_laws.specs.State.{State}
 use Rattle.accepted_laws.proofs.Accepted.{accepted-wired, accepted-each, accepted-fed, accepted-run}
 use Rattle.rewriter_state.specs.declared.Extent.{Extent}
 use Rattle.rewriter.specs.declared.Step.{Step}
 use Rattle.rewriter.specs.declared.Step.the-variants as step
 use Rattle.rewriter.specs.declared.Rewritten.the-variants as rewritten
-use Rattle.rewriter_state.specs.Words.{rewriterIn, Held, ClearsStamps}
-use Rattle.rewriter_cycle.specs.Cycle.{Running}
+use Rattle.rewriter_state.specs.inner.Words.{rewriterIn, Held, ClearsStamps}
+use Rattle.rewriter_cycle.specs.inner.Cycle.{Running}
 use Rattle.rewriter_cycle.proofs.Passes.{held-few}
-use Rattle.rewriter.specs.Run.{Went, Goes, ReadyItems, RunsItems, first, Begins, AppliesAll, Rewrites}
+use Rattle.rewriter.specs.inner.Run.{Went, Goes, ReadyItems, RunsItems, first, Begins, AppliesAll, Rewrites}
 use Rattle.rewriter.proofs.Items.{between-frame}
 
 netlist-of : (d : Netlist) (cs : List Cell) (bits : List ℕ) → d .cells ≡ cs → d .bits ≡ bits → d ≡ record { cells = cs; bits = bits }

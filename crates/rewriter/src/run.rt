@@ -10,16 +10,16 @@ use value::Slot;
 ghost use mathlib.Core.Path.{_≡_};
 ghost use Prim.Native.Nat.{_≤_, _<_};
 ghost use lib.ListN.{length};
-ghost use Rattle.netlist.specs.Areas.{recordsIn};
+ghost use Rattle.netlist.specs.inner.Areas.{recordsIn};
 ghost use Rattle.netlist.specs.Netlist.{cellIn};
 ghost use Rattle.netlist.specs.Shape.{visitMut, isSplittable};
 ghost use Rattle.design.specs.Queue.{mapNetNew};
 ghost use Rattle.checking.specs.declared.Verdict.the-variants.{Pass};
 ghost use Rattle.checking.specs.Refusals.{firstOf};
 ghost use Rattle.checking.specs.Checking.{netlistStages};
-ghost use Rattle.rewriter_state.specs.Words.{rewriterIn};
-ghost use Rattle.rewriter_cycle.specs.Cycle.{Running};
-ghost use Rattle.rewriter.specs.Run.{ReadyCell, ReadyItem, ReadyItems, RunsBit, RunsCell, RunsItem, RunsItems, AppliesAll, Begins, Rewrites};
+ghost use Rattle.rewriter_state.specs.inner.Words.{rewriterIn};
+ghost use Rattle.rewriter_cycle.specs.inner.Cycle.{Running};
+ghost use Rattle.rewriter.specs.inner.Run.{ReadyCell, ReadyItem, ReadyItems, RunsBit, RunsCell, RunsItem, RunsItems, AppliesAll, Begins, Rewrites};
 
 fn is_splittable(c: Cell) -> bool
     ensures { λ r. ⌜ r ≡ isSplittable c ⌝ }
@@ -92,7 +92,7 @@ fn run_items(work: &mut [u32], begun: Extent, count: u32) -> Step
     let mut x = begun;
     let mut j: u32 = 0;
     while j < count {
-        let s = cell::word(work, area::ORDER + (j as usize));
+        let s = basics::word(work, area::ORDER + (j as usize));
         match run_item(work, x, Slot(s)) {
             Step::On(y) => x = y,
             Step::Full => return Step::Full,

@@ -11,13 +11,13 @@ use Rattle.cell.specs.declared.Cell.the-variants.{Input, Output, Buf, Not, And,
 use Rattle.design.specs.declared.Source.{Source}
 use Rattle.normalize.specs.declared.Outcome.{Outcome}
 use Rattle.normalize.specs.declared.Outcome.the-variants.{None, Value, Form, Add, NotOf, AddNotOf}
-use Rattle.normalize.specs.Outcomes.{_orElse_, given, fromControl}
+use Rattle.normalize.specs.Outcomes.{given, fromControl}
 use Rattle.normalize.specs.Normalize.{normalize}
 use Rattle.aig.specs.Aig.{differ, notRule, xorOf, aigOrder, aigRule, xorOrder, xorRule, simpleAigOpt}
 use Rattle.aig_laws.proofs.Strings.{has-orElse, has-given}
 use Rattle.aig_laws.specs.Arms.{NotArm, not-none, not-zero, not-one, not-undef, not-not, AigArm, aig-none, aig-same, aig-opposite, aig-zero, aig-one, aig-not, and-same, and-opposite, and-and-same, and-and-opposite, nand-same, nand-opposite, nand-and-same, nand-and-opposite, nand-nand-same, nand-nand-opposite, xor-on, xor-and-on, XorArm, xor-none, xor-same, xor-undef, xor-zero, xor-one, xor-not, xor-and, xor-nand, xor-xor, xor-both}
 use Rattle.aig_laws.proofs.Arms.{notArm, aigArm, xorArm}
-use Rattle.rewriter_cycle.specs.Cycle.{adds}
+use Rattle.rewriter_cycle.specs.inner.Cycle.{adds}
 
 -- `SimpleAigOpt` for each kind
 module _ (look : Net → Source) where

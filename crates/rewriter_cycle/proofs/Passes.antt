@@ -6,16 +6,16 @@ use Prim.Native.Nat.{ℕ, zero, suc, _+_, _*_, _≤_, _<_}
 use native.Mathlib.Omega.{arith}
 use lib.ListN.{length, length-append}
 use Rattle.value.specs.declared.Net.{Net}
-use Rattle.value.specs.declared.ControlNet.{ControlNet}
 use Rattle.value.specs.declared.ControlNet.the-variants.{Pos, Neg}
 use Rattle.value.specs.Value.{UNDEF, ZERO, ONE}
 use Rattle.cell.specs.declared.Cell.{Cell}
 use Rattle.cell.specs.declared.Cell.the-variants.{Input, Output, Buf, Not, And, Or, Mux, Aig}
-use Rattle.netlist.specs.Areas.{Within, keysFrom}
+use Rattle.netlist.specs.inner.Areas.{Within, keysFrom}
 use Rattle.netlist.proofs.Frames.{within-then}
-use Rattle.design.specs.declared.Found.{Found}
-use Rattle.design.specs.declared.Found.the-variants as found
-use Rattle.design.specs.Queue.{netIn, findNewCell, seek}
+use Rattle.numberer.specs.declared.Found.{Found}
+use Rattle.numberer.specs.declared.Found.the-variants as found
+use Rattle.design.specs.Queue.{netIn, findNewCell}
+use Rattle.numberer.specs.Numberer.{seek}
 use Rattle.design.proofs.Words.{cells-length}
 use Rattle.normalize.specs.declared.Outcome.{Outcome}
 use Rattle.normalize.specs.declared.Outcome.the-variants.{None, Value, Form, Add, NotOf, AddNotOf}
@@ -34,7 +34,8 @@ use Rattle.aig_laws.proofs.Reading.{simple-reads}
 use Rattle.rewrite_laws.proofs.Falling.{simple-falls, rules-fall}
 use Rattle.rewrite_laws.proofs.Kept.{KeptResult, KeptAdded, KeptPass, enter-kept, pass-kept, process-kept}
 use Rattle.rewrite_laws.proofs.Grows.{ExtendsResult, process-extends, extends-grows}
-use Rattle.rewrite_laws.proofs.Settled.{Settled, stamped, settled-constants, found-settled}
+use Rattle.rewrite_laws.specs.State.{Settled}
+use Rattle.rewrite_laws.proofs.Settled.{stamped, settled-constants, found-settled}
 use Rattle.rewrite_laws.proofs.Items.{FewSlots}
 use Rattle.rewrite_laws.proofs.Keeping.{P, Q, N, keeping}
 use Rattle.rewriter_state.specs.declared.Extent.{Extent}
@@ -42,8 +43,8 @@ use Rattle.rewriter_state.specs.declared.Added.{Added}
 use Rattle.rewriter_state.specs.declared.Added.the-variants as added
 use Rattle.rewriter_cycle.specs.declared.Processed.{Processed}
 use Rattle.rewriter_cycle.specs.declared.Processed.the-variants as processed
-use Rattle.rewriter_state.specs.Words.{rewriterIn, Held, Enters}
-use Rattle.rewriter_cycle.specs.Cycle.{asValueOf, asNotOf, adds, unaddedOf, foundOf, askedOf, formOf, opted, ruled, slotsAfter, slotsAdded, Left, Answers, AnswersAdd, Ready, Performs, Processes, Adds}
+use Rattle.rewriter_state.specs.inner.Words.{rewriterIn, Held, Enters}
+use Rattle.rewriter_cycle.specs.inner.Cycle.{asValueOf, asNotOf, adds, unaddedOf, foundOf, askedOf, formOf, opted, ruled, slotsAfter, slotsAdded, Left, Answers, AnswersAdd, Ready, Performs, Processes, Adds}
 use Rattle.rewriter_cycle.proofs.Arms.{not-arm, and-arm, or-arm, input-arm, output-arm, buf-arm, mux-arm, not-adds}
 
 -- the words after a step, and after two

@@ -1,1 +1,1 @@
-pub mod Cycle
+pub mod inner

@@ -2,8 +2,8 @@
 // `SimpleAigOpt` (generic/src/rewrite/aig.rs). Those that look at the cells of their operands decide by the tests of the crates below; those that
 // add a cell call the adder.
 use cell::Cell;
-use design::Found;
 use normalize::Outcome;
+use numberer::Found;
 use rewriter_state::Added;
 use rewriter_state::Extent;
 use value::ControlNet;
@@ -11,8 +11,8 @@ use value::Net;
 ghost use mathlib.Core.Path.{_≡_};
 ghost use mathlib.Core.Bool.{false};
 ghost use Rattle.cell.specs.declared.Cell.the-variants.{Not, And, Or, Xor, Aig};
-ghost use Rattle.rewriter_state.specs.Words.{Held};
-ghost use Rattle.rewriter_cycle.specs.Cycle.{asValueOf, asNotOf, adds, unaddedOf, askedOf, formOf, opted, Ready, Performs, Processes, Adds};
+ghost use Rattle.rewriter_state.specs.inner.Words.{Held};
+ghost use Rattle.rewriter_cycle.specs.inner.Cycle.{asValueOf, asNotOf, adds, unaddedOf, askedOf, formOf, opted, Ready, Performs, Processes, Adds};
 
 // What is left of a cell that was processed (`RewriteResult`): itself, another form, a net in its place; or no slot is left.
 pub enum Processed {

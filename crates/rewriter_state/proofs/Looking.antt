@@ -16,16 +16,16 @@ use Rattle.value.specs.Value.{driver}
 use Rattle.cell.specs.declared.Cell.{Cell}
 use Rattle.cell.specs.declared.Cell.the-variants.{Input}
 use Rattle.cell.specs.Records.{cellOf}
-use Rattle.cell.proofs.Lists.{tabulate-length, tabulate-at}
-use Rattle.netlist.specs.Areas.{wordRecord, wordsIn, figuresAt}
+use Rattle.basics.proofs.Tables.{tabulate-length, tabulate-at}
+use Rattle.netlist.specs.inner.Areas.{wordRecord, wordsIn, figuresAt}
 use Rattle.design.specs.declared.Source.{Source}
 use Rattle.design.specs.declared.Source.the-variants.{Opaque, Known}
 use Rattle.design.specs.Queue.{sourceIn, mapNetNew, findNewCell}
-use Rattle.design.specs.Words.{netlistIn, replacedIn}
+use Rattle.design.specs.inner.Words.{netlistIn, replacedIn}
 use Rattle.design.proofs.Words.{cells-length, cell-at}
 use Rattle.rewrite.specs.Rewriter.{stamp, stampIn, findCell}
 use Rattle.rewriter_state.specs.declared.Extent.{Extent}
-use Rattle.rewriter_state.specs.Words.{rewriterIn}
+use Rattle.rewriter_state.specs.inner.Words.{rewriterIn}
 
 -- the stamp of a net
 module _ (m : ℕ) (ws : List ℕ) (n : Net) (d : Driver) (d-is : d ≡ driver n) where

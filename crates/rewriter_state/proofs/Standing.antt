@@ -7,11 +7,11 @@ use native.Mathlib.Decide.{decLt}
 use lib.ListN.{length, getD, set}
 use lib.Seq.{getD-set-same, getD-set-other}
 use Rattle.value.specs.declared.Net.{Net}
-use Rattle.netlist.specs.Areas.{Within, figuresAt, mixesAt, replacedAt}
+use Rattle.netlist.specs.inner.Areas.{Within, figuresAt, mixesAt, replacedAt}
 use Rattle.netlist.proofs.Frames.{within-none, within-then, within-set}
 use Rattle.design.specs.Queue.{netIn}
 use Rattle.rewriter_state.specs.declared.Extent.{Extent}
-use Rattle.rewriter_state.specs.Words.{Held, ClearsStamps, Stands}
+use Rattle.rewriter_state.specs.inner.Words.{Held, ClearsStamps, Stands}
 
 -- the loop that clears stamps
 pub record Unstamping (n : ℕ) (ws₀ ws : List ℕ) (s : ℕ) : Type 0 where

@@ -16,24 +16,25 @@ use Rattle.cell.specs.declared.Record.{Record}
 use Rattle.cell.specs.declared.Cell.{Cell}
 use Rattle.cell.specs.declared.Cell.the-variants.{Input}
 use Rattle.cell.specs.Records.{cellOf, cellRecord}
-use Rattle.cell.specs.Tabulate.{tabulate}
+use Rattle.basics.specs.Lists.{tabulate}
 use Rattle.cell.proofs.RoundTrips.{cell-back}
 use Rattle.value.specs.Value.{netAt}
-use Rattle.netlist.specs.Areas.{wordRecord, storeWords, recordsIn, wordsIn, Within, figuresAt, keysFrom, mixesAt, replacedAt, visitedAt}
+use Rattle.netlist.specs.inner.Areas.{wordRecord, storeWords, recordsIn, wordsIn, Within, figuresAt, keysFrom, mixesAt, replacedAt, visitedAt}
 use Rattle.netlist.specs.Netlist.{netlistOf}
 use Rattle.netlist.proofs.Frames.{within-then, within-wider, within-set, tabulate-same, record-kept, words-kept}
 use Rattle.netlist.proofs.Areas.{Sized, store-within, stored-other, stored-same}
 use Rattle.order.proofs.Words.{tabulate-set}
-use Rattle.design.specs.declared.Found.{Found}
-use Rattle.design.specs.Queue.{Design, Entry, netIn, replaceCell, replaceNet, seek}
-use Rattle.design.specs.Words.{netlistIn, replacedIn}
-use Rattle.design.proofs.Lists.{map-table}
-use Rattle.numberer.specs.Words.{numbererIn, Entered, Mixed, Inserts}
+use Rattle.numberer.specs.declared.Found.{Found}
+use Rattle.design.specs.Queue.{Design, netIn, replaceCell, replaceNet}
+use Rattle.numberer.specs.Numberer.{Entry, seek}
+use Rattle.design.specs.inner.Words.{netlistIn, replacedIn}
+use Rattle.basics.proofs.Tables.{map-table}
+use Rattle.numberer.specs.inner.Words.{numbererIn, Entered, Mixed, Inserts}
 use Rattle.numberer.proofs.Records.{bit-of, cell-sized}
 use Rattle.numberer.proofs.Inserting.{numberer-stays, entered-stays, mixed-stays}
 use Rattle.rewrite.specs.Rewriter.{Rewriter, entered, finished}
 use Rattle.rewriter_state.specs.declared.Extent.{Extent}
-use Rattle.rewriter_state.specs.Words.{rewriterIn, Held, EntersAt, ReadySlot, Finishes}
+use Rattle.rewriter_state.specs.inner.Words.{rewriterIn, Held, EntersAt, ReadySlot, Finishes}
 
 -- the cells of the slots
 cells-table : (n : ℕ) (ws : List ℕ) → netlistIn n ws .cells ≡ tabulate (λ s. cellOf (wordRecord ws s)) n

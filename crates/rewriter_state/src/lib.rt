@@ -1,20 +1,21 @@
 // The state of the rewriter, after `Rewriter` of netlist/src/rewrite.rs: cells, replaced nets, stamps and the cache, each a part of the work
 // slice.
 use cell::Cell;
-use design::Found;
 use design::Source;
 use netlist::area;
+use numberer::Found;
 use value::Driver;
 use value::Net;
 use value::Slot;
 ghost use mathlib.Core.Path.{_≡_};
 ghost use Prim.Native.Nat.{_≤_, _<_};
 ghost use lib.ListN.{length};
-ghost use Rattle.netlist.specs.Areas.{wordsIn};
-ghost use Rattle.design.specs.Queue.{findNewCell, seek};
+ghost use Rattle.netlist.specs.inner.Areas.{wordsIn};
+ghost use Rattle.design.specs.Queue.{findNewCell};
+ghost use Rattle.numberer.specs.Numberer.{seek};
 ghost use Rattle.rewrite.specs.Rewriter.{stamp, findCell as findCellOf};
-ghost use Rattle.numberer.specs.Words.{Inserts};
-ghost use Rattle.rewriter_state.specs.Words.{stampsAt, rewriterIn, Held, ClearsStamps, Enters, ReadySlot, Replaces, Stays, Becomes, Stands};
+ghost use Rattle.numberer.specs.inner.Words.{Inserts};
+ghost use Rattle.rewriter_state.specs.inner.Words.{stampsAt, rewriterIn, Held, ClearsStamps, Enters, ReadySlot, Replaces, Stays, Becomes, Stands};
 
 // How far the rewriter is: the ticket's slots, all slots, the entries of the cache, the last stamp.
 pub struct Extent {
@@ -38,7 +39,7 @@ pub fn clear_stamps(work: &mut [u32], n: u32)
 {
     let mut s: u32 = 0;
     while s < n {
-        cell::put(work, area::FIGURES + (s as usize), 0);
+        basics::put(work, area::FIGURES + (s as usize), 0);
         s += 1;
     }
 }
@@ -51,7 +52,7 @@ fn stamp_of(work: &[u32], x: Extent, n: Net) -> u32
         Driver::Const(_) => 0,
         Driver::Cell(s) => {
             if s.0 < x.slots {
-                return cell::word(work, area::FIGURES + (s.0 as usize));
+                return basics::word(work, area::FIGURES + (s.0 as usize));
             }
             0
         }
@@ -112,7 +113,7 @@ pub fn enter(work: &mut [u32], x: Extent, c: Cell) -> Added
     let s = Slot(x.slots);
     netlist::put_record(work, s, cell::cell_record(0, c));
     remember(work, x, s, c);
-    cell::put(work, area::FIGURES + (x.slots as usize), x.clock + 1);
+    basics::put(work, area::FIGURES + (x.slots as usize), x.clock + 1);
     let y = Extent {
         tickets: x.tickets,
         slots: x.slots + 1,
@@ -128,7 +129,7 @@ pub fn replace(work: &mut [u32], x: Extent, s: Slot, n: Net) -> Extent
     ensures { λ y. ⌜ Replaces (s .0) x y (now (work .entry)) (now (work .exit)) n ⌝ }
 {
     design::queue::replace_net(work, x.tickets, s, n);
-    cell::put(work, area::FIGURES + (s.0 as usize), x.clock + 1);
+    basics::put(work, area::FIGURES + (s.0 as usize), x.clock + 1);
     Extent {
         tickets: x.tickets,
         slots: x.slots,
@@ -143,7 +144,7 @@ pub fn stay(work: &mut [u32], x: Extent, s: Slot, c: Cell) -> Extent
     ensures { λ y. ⌜ Stays (s .0) x y (now (work .entry)) (now (work .exit)) c ⌝ }
 {
     remember(work, x, s, c);
-    cell::put(work, area::FIGURES + (s.0 as usize), x.clock + 1);
+    basics::put(work, area::FIGURES + (s.0 as usize), x.clock + 1);
     Extent {
         tickets: x.tickets,
         slots: x.slots,
@@ -170,7 +171,7 @@ pub fn stand(work: &mut [u32], x: Extent)
     let mut s = x.tickets;
     while s < x.slots {
         let own = Net::from_cell_index(Slot(s));
-        cell::put(work, area::REPLACED + (s as usize), own.0);
+        basics::put(work, area::REPLACED + (s as usize), own.0);
         s += 1;
     }
 }

@@ -1,6 +1,6 @@
 -- The starred tickets, the corners, the levels, the calls that are turned away and the wrong programs, computed from the definitions by the checker. Assumes
 -- nothing.
-use mathlib.Core.Path.{_≡_, refl, ap}
+use mathlib.Core.Path.{refl, ap, _≡_}
 use mathlib.Core.List.{List, _∷_}
 use Prim.Native.Nat.{ℕ}
 use native.Mathlib.Omega.{arith}
@@ -11,19 +11,20 @@ use Rattle.cell.specs.Bytes.{word16, word32, bytes16, bytes32}
 use Rattle.kinds.specs.Kinds.{kindOf, useOf, sortOf}
 use Rattle.cell.specs.Operands.{fieldOf, isOperand, isCombEdge, edgeAt}
 use Rattle.cell.specs.Records.{recordAt, recordsOf, bytesOf, cellOf, cellRecord}
-use Rattle.cell.specs.Tabulate.{tabulate}
+use Rattle.basics.specs.Lists.{tabulate, those, anyOf, joined}
 use Rattle.loops.specs.Reach.{stepBack, reachingIn, reaches, onLoop}
 use Rattle.checking.specs.Refusals.{firstOf, slotBySlot}
 use Rattle.checking.specs.Checking.{unknownKind, reservedField, follows, outOfSequence, bitOutOfSequence, undrivenField, undrivenOperand, kindStages, fieldStages, bitStages, operandStages, recordStages, loopStages, sizeGroup, recordGroup, loopGroup, netlistStages, checkStages, gateCount}
 use Rattle.netlist.specs.Shape.{visit, visitMut, hasEffects}
 use Rattle.netlist.specs.Netlist
-use Rattle.netlist.specs.Netlist.{netlistOf, encode, ticketOf, those, anyOf, joined, sources, outputOf, iterCells, cellDeps}
+use Rattle.netlist.specs.Netlist.{netlistOf, encode, ticketOf, sources, outputOf, iterCells, cellDeps}
 use Rattle.order.specs.Walk.{each, down, walk, walkFrom}
 use Rattle.order.specs.Orders.{bitDeps, topoSort, iterCellsTopo}
-use Rattle.design.specs.Queue.{unchanged, followed, mapNetNew, findNewCell, applied, didChange, eqRecord, eqCell, seek}
+use Rattle.design.specs.Queue.{unchanged, followed, mapNetNew, findNewCell, applied, didChange, eqRecord, eqCell}
+use Rattle.numberer.specs.Numberer.{seek}
 use Rattle.compact.specs.Compact.{keep, keptSlots, countKept, netMap, compact}
 use Rattle.merge.specs.Merge.{keyOf, findOrInsertAll, mergeCell, mergeCells, merging, merge}
-use Rattle.normalize.specs.Outcomes.{_orElse_, fromControl}
+use Rattle.normalize.specs.Outcomes.{fromControl, _orElse_}
 use Rattle.normalize.specs.Normalize.{normalize}
 use Rattle.aig.specs.Aig.{ifNot, ifAig, ifXor, notRule, aigOfNot, andAnd, andWith, aigOfAnd, nandAnd, xorOf, nandNand, nandWith, aigOfNand, xorAnd, xorWith, aigOfXor, aigOrder, aigRule, andXor, xorXor, xorOrder, xorRule, simpleAigOpt}
 use Rattle.rewrite.specs.Rewriter.{stamp, findCell, entered, finished, weight}

@@ -1,7 +1,19 @@
 -- Corners of the Rust that the starred tickets do not show, with what the unchanged Rust answers and writes. Assumes nothing: these are definitions.
 use mathlib.Core.List.{List, [], _∷_}
+use Prim.Native.Nat.{ℕ}
 use Rattle.cell.specs.Records.{recordOf}
 use Rattle.tickets.specs.Starred.{Row, merging, rewriting, compacting}
+
+-- what two ands that share an operand end as, in whichever order a third reads them
+abbrev shared : List (List ℕ)
+shared =
+    (0 ∷ 0 ∷ 96 ∷ [])
+    ∷ (0 ∷ 1 ∷ 0 ∷ 0 ∷ 1 ∷ 0 ∷ 0 ∷ [])
+    ∷ (1 ∷ 1 ∷ 0 ∷ 0 ∷ 2 ∷ 0 ∷ 0 ∷ [])
+    ∷ (2 ∷ 1 ∷ 0 ∷ 0 ∷ 3 ∷ 0 ∷ 0 ∷ [])
+    ∷ (3 ∷ 2 ∷ 0 ∷ 0 ∷ 7 ∷ 9 ∷ 0 ∷ [])
+    ∷ (4 ∷ 9 ∷ 0 ∷ 0 ∷ 2 ∷ 3 ∷ 0 ∷ [])
+    ∷ (5 ∷ 9 ∷ 0 ∷ 0 ∷ 4 ∷ 6 ∷ 0 ∷ []) ∷ []
 
 unfoldable pub corners : List Row
 corners =
@@ -171,25 +183,13 @@ corners =
     ∷ (
       rewriting,
       recordOf 1 0 0 1 0 0 ∷ recordOf 1 0 0 2 0 0 ∷ recordOf 1 0 0 3 0 0 ∷ recordOf 5 0 0 2 3 0 ∷ recordOf 5 0 0 2 4 0 ∷ recordOf 5 0 0 5 6 0 ∷ recordOf 2 0 0 7 9 0 ∷ [],
-      (0 ∷ 0 ∷ 96 ∷ [])
-          ∷ (0 ∷ 1 ∷ 0 ∷ 0 ∷ 1 ∷ 0 ∷ 0 ∷ [])
-          ∷ (1 ∷ 1 ∷ 0 ∷ 0 ∷ 2 ∷ 0 ∷ 0 ∷ [])
-          ∷ (2 ∷ 1 ∷ 0 ∷ 0 ∷ 3 ∷ 0 ∷ 0 ∷ [])
-          ∷ (3 ∷ 2 ∷ 0 ∷ 0 ∷ 7 ∷ 9 ∷ 0 ∷ [])
-          ∷ (4 ∷ 9 ∷ 0 ∷ 0 ∷ 2 ∷ 3 ∷ 0 ∷ [])
-          ∷ (5 ∷ 9 ∷ 0 ∷ 0 ∷ 4 ∷ 6 ∷ 0 ∷ []) ∷ [],
+      shared,
     )
     -- rules come after Normalize: the and-inverter of and(6, 5) has sorted operands before its rule is asked
     ∷ (
       rewriting,
       recordOf 1 0 0 1 0 0 ∷ recordOf 1 0 0 2 0 0 ∷ recordOf 1 0 0 3 0 0 ∷ recordOf 5 0 0 2 3 0 ∷ recordOf 5 0 0 2 4 0 ∷ recordOf 5 0 0 6 5 0 ∷ recordOf 2 0 0 7 9 0 ∷ [],
-      (0 ∷ 0 ∷ 96 ∷ [])
-          ∷ (0 ∷ 1 ∷ 0 ∷ 0 ∷ 1 ∷ 0 ∷ 0 ∷ [])
-          ∷ (1 ∷ 1 ∷ 0 ∷ 0 ∷ 2 ∷ 0 ∷ 0 ∷ [])
-          ∷ (2 ∷ 1 ∷ 0 ∷ 0 ∷ 3 ∷ 0 ∷ 0 ∷ [])
-          ∷ (3 ∷ 2 ∷ 0 ∷ 0 ∷ 7 ∷ 9 ∷ 0 ∷ [])
-          ∷ (4 ∷ 9 ∷ 0 ∷ 0 ∷ 2 ∷ 3 ∷ 0 ∷ [])
-          ∷ (5 ∷ 9 ∷ 0 ∷ 0 ∷ 4 ∷ 6 ∷ 0 ∷ []) ∷ [],
+      shared,
     )
     -- a buffer is its operand, and the operands of a xor are sorted
     ∷ (

@@ -12,7 +12,8 @@ use Rattle.cell.specs.declared.Record.{Record}
 use Rattle.cell.specs.Records.{recordOf}
 use Rattle.checking.specs.declared.Refusal.the-variants.{ShortReply}
 use Rattle.netlist.specs.Shape.{hasEffects}
-use Rattle.netlist.specs.Netlist.{Netlist, cellIn, those, ticketOf}
+use Rattle.netlist.specs.Netlist.{Netlist, cellIn, ticketOf}
+use Rattle.basics.specs.Lists.{those}
 use Rattle.order.specs.Orders.{topoSort}
 use Rattle.design.specs.Queue.{applied, findNewCell}
 use Rattle.merge.specs.Merge.{keyOf, merge}

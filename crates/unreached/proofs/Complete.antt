@@ -8,7 +8,7 @@ use lib.Dec.{eqb}
 use lib.ListN.{length, getD, drop}
 use lib.Seq.{getD-drop}
 use borrow.Author.Tests.{eqb-true}
-use Rattle.cell.proofs.Lists.{tabulate-length}
+use Rattle.basics.proofs.Tables.{tabulate-length}
 use Rattle.netlist.specs.Netlist.{Netlist, run, outputOf}
 use Rattle.kept.proofs.Sound.{Sound, start-inside, start-zero, start-has, sound-wired}
 use Rattle.kept.proofs.Keep.{reads-kept}

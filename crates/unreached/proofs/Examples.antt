@@ -10,19 +10,18 @@ use Rattle.value.specs.declared.ControlNet.the-variants.{Pos}
 use Rattle.value.specs.Value.{slotAt, eqNet, leNet, leControl, eqControl, isAlways, canonicalize, notControl, driver}
 use Rattle.cell.specs.declared.Cell.{Cell}
 use Rattle.cell.specs.declared.Cell.the-variants.{Input, Output, Aig}
-use Rattle.cell.specs.Tabulate.{tabulate}
+use Rattle.basics.specs.Lists.{tabulate, those, joined, has, All}
 use Rattle.netlist.specs.Shape.{visit, visitMut, hasEffects}
-use Rattle.netlist.specs.Netlist.{Netlist, those, joined, sources}
+use Rattle.netlist.specs.Netlist.{Netlist, sources}
 use Rattle.order.specs.Walk.{each, down, walk, walkFrom}
 use Rattle.order.specs.Orders.{bitDeps, topoSort}
-use Rattle.design.specs.Queue.{netIn, unchanged, followed, mapNetNew, findNewCell, applied, seek}
-use Rattle.normalize.specs.Outcomes.{_orElse_, fromControl}
+use Rattle.design.specs.Queue.{netIn, unchanged, followed, mapNetNew, findNewCell, applied}
+use Rattle.numberer.specs.Numberer.{seek}
+use Rattle.normalize.specs.Outcomes.{fromControl, _orElse_}
 use Rattle.normalize.specs.Normalize.{normalize}
 use Rattle.aig.specs.Aig.{ifNot, ifAig, ifXor, aigOfNot, aigOfAnd, aigOfNand, aigOfXor, aigOrder, aigRule, simpleAigOpt}
 use Rattle.rewrite.specs.Rewriter.{begun, stamp, findCell, finished, weight}
 use Rattle.rewrite.specs.Rewrite.{rules, process, processCell, runItem}
-use Rattle.order_laws.specs.Ordered.{has}
-use Rattle.order_laws.specs.Members.{All}
 use Rattle.unreached.specs.Steps.{unalived, EachPass, EachItem}
 use Rattle.unreached.specs.Stops.{Complete, PassGoes, ItemGoes, QueueGoes}
 

@@ -8,12 +8,13 @@ use Rattle.value.specs.declared.Net.{Net}
 use Rattle.cell.specs.declared.Cell.{Cell}
 use Rattle.netlist.specs.Shape.{visitMut}
 use Rattle.netlist.specs.Netlist.{Netlist, cellIn, outputOf}
-use Rattle.design.specs.declared.Found.{Found}
-use Rattle.design.specs.declared.Found.the-variants.{Nothing, At}
-use Rattle.design.specs.Queue.{netIn, mapNetNew, seek}
+use Rattle.numberer.specs.declared.Found.{Found}
+use Rattle.numberer.specs.declared.Found.the-variants.{Nothing, At}
+use Rattle.design.specs.Queue.{netIn, mapNetNew}
+use Rattle.numberer.specs.Numberer.{seek}
 use Rattle.merge.specs.Merge.{keyOf, Merging, findOrInsert, mergeCell}
 use Rattle.order_laws.specs.Ordered.{OnceAfter}
-use Rattle.order_laws.specs.Members.{All}
+use Rattle.basics.specs.Lists.{All}
 use Rattle.order_laws.proofs.Queue.{seek-finds}
 use Rattle.levels_laws.specs.Instances.{sizesIn}
 use Rattle.kept.proofs.Sound.{Sound}

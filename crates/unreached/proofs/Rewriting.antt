@@ -18,15 +18,17 @@ use Rattle.order.specs.Orders.{bitDeps, topoSort}
 use Rattle.design.specs.Queue.{netIn, mapNetNew, findNewCell}
 use Rattle.rewrite.specs.Rewriter.{Rewriter, begun, entered, finished, weight}
 use Rattle.rewrite.specs.Rewrite.{Result, none, cell, value, spent, Added, at, unadded, enter, processCell, addCell, Run, ran, stuck, bitDone, cellDone, andThen, runItem, runItems, run, slotsOf}
-use Rattle.order_laws.specs.Ordered.{has, OnceAfter, FedAfter}
-use Rattle.order_laws.specs.Members.{All, Wired}
-use Rattle.order_laws.proofs.Truth.{either, never}
-use Rattle.order_laws.proofs.Members.{all-imp, has-first, has-later}
+use Rattle.basics.specs.Lists.{has, All}
+use Rattle.order_laws.specs.Ordered.{OnceAfter, FedAfter}
+use Rattle.order_laws.specs.Members.{Wired}
+use Rattle.basics.proofs.Truth.{either, never}
+use Rattle.basics.proofs.Members.{all-imp, has-first, has-later}
 use Rattle.order_laws.proofs.Sorts.{gate-other}
 use Rattle.order_laws.proofs.Bits.{topoSort-each}
-use Rattle.rewrite_laws.proofs.Settled.{stamped-inside, SettledSlot, Settled, StandsFor, Inv, map-settled}
+use Rattle.rewrite_laws.proofs.Settled.{stamped-inside, map-settled}
+use Rattle.rewrite_laws.specs.State.{SettledSlot, Settled, StandsFor, Inv, State}
 use Rattle.rewrite_laws.proofs.Kept.{Keeps, KeptResult, processCell-kept}
-use Rattle.rewrite_laws.proofs.Keeping.{State, P, Q, N, keeping}
+use Rattle.rewrite_laws.proofs.Keeping.{P, Q, N, keeping}
 use Rattle.rewrite_laws.proofs.Items.{rules-effect, effect-none}
 use Rattle.rewrite_laws.proofs.Grows.{runItem-grows, runItems-grows, grown-slots}
 use Rattle.rewrite_laws.proofs.Running.{RunOk, item-ok, c-effects, c-settled, begun-state}

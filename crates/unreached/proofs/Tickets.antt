@@ -15,9 +15,9 @@ use Rattle.design.specs.Queue.{findNewCell, applied}
 use Rattle.rewrite.specs.Rewriter.{Rewriter, begun}
 use Rattle.rewrite.specs.Rewrite.{ran, run, slotsOf}
 use Rattle.calls.specs.Calls.{decoded, checkVerdict, rewriteRun}
-use Rattle.order_laws.specs.Ordered.{has}
+use Rattle.basics.specs.Lists.{has}
 use Rattle.order_laws.specs.Members.{Drives}
-use Rattle.order_laws.proofs.Members.{all-imp}
+use Rattle.basics.proofs.Members.{all-imp}
 use Rattle.accepted_laws.proofs.Accepted.{accepted-wired, accepted-fed}
 use Rattle.kept.proofs.Tickets.{ticket-passes, ticket-sound}
 use Rattle.rewrite_sound.proofs.Shaped.{Holds}

@@ -14,11 +14,11 @@ use Rattle.netlist.specs.Shape.{hasEffects, isSplittable}
 use Rattle.design.specs.Queue.{Design, netIn, drivenTo, findNewCell, replaceCell}
 use Rattle.rewrite.specs.Rewriter.{Rewriter, finished}
 use Rattle.rewrite.specs.Rewrite.{Result, none, cell, value, spent, Added, at, unadded, processCell, addCell, bitDone, cellDone, runItem}
-use Rattle.order_laws.specs.Ordered.{has}
-use Rattle.order_laws.specs.Members.{All, Drives}
+use Rattle.basics.specs.Lists.{has, All}
+use Rattle.order_laws.specs.Members.{Drives}
 use Rattle.order_laws.specs.Ends.{Final}
-use Rattle.order_laws.proofs.Truth.{either}
-use Rattle.order_laws.proofs.Members.{all-imp, all-append, has-all}
+use Rattle.basics.proofs.Truth.{either}
+use Rattle.basics.proofs.Members.{all-imp, all-append, has-all}
 use Rattle.rewrite_laws.proofs.Grows.{ExtendsResult, ExtendsAdded, processCell-extends, addCell-extends}
 use Rattle.unreached.specs.Steps.{After, itemCell, byValue, unalived}
 use Rattle.unreached.specs.Stops.{Unreplaced}

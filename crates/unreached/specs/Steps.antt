@@ -8,9 +8,10 @@ use Rattle.cell.specs.declared.Cell.{Cell}
 use Rattle.cell.specs.declared.Cell.the-variants.{Not}
 use Rattle.netlist.specs.Shape.{visitMut, isSplittable}
 use Rattle.netlist.specs.Netlist.{Netlist, cellIn, outputOf}
-use Rattle.design.specs.declared.Found.{Found}
-use Rattle.design.specs.declared.Found.the-variants.{Nothing, At}
-use Rattle.design.specs.Queue.{netIn, mapNetNew, seek}
+use Rattle.numberer.specs.declared.Found.{Found}
+use Rattle.numberer.specs.declared.Found.the-variants.{Nothing, At}
+use Rattle.design.specs.Queue.{netIn, mapNetNew}
+use Rattle.numberer.specs.Numberer.{seek}
 use Rattle.merge.specs.Merge.{keyOf, Merging, findOrInsert, mergeCell}
 use Rattle.normalize.specs.declared.Outcome.{Outcome}
 use Rattle.normalize.specs.declared.Outcome.the-variants.{None, Value, Form, Add, NotOf, AddNotOf}

@@ -9,16 +9,17 @@ use lib.ListN.{length, getD, replicate}
 use Rattle.value.specs.declared.Net.{Net}
 use Rattle.cell.specs.declared.Cell.{Cell}
 use Rattle.netlist.specs.Shape.{visit, hasEffects, isSplittable}
-use Rattle.netlist.specs.Netlist.{Netlist, cellIn, those, startOf, outputOf}
+use Rattle.netlist.specs.Netlist.{Netlist, cellIn, startOf, outputOf}
+use Rattle.basics.specs.Lists.{those, has, All}
 use Rattle.order.specs.Orders.{topoSort, iterCellsTopo}
-use Rattle.design.specs.declared.Found.the-variants.{At}
-use Rattle.design.specs.Queue.{Design, netIn, unchanged, mapNetNew, findNewCell, applied, seek}
+use Rattle.numberer.specs.declared.Found.the-variants.{At}
+use Rattle.design.specs.Queue.{Design, netIn, unchanged, mapNetNew, findNewCell, applied}
+use Rattle.numberer.specs.Numberer.{seek}
 use Rattle.compact.specs.Compact.{keep, isKept}
 use Rattle.merge.specs.Merge.{merging}
 use Rattle.rewrite.specs.Rewriter.{Rewriter, begun}
 use Rattle.rewrite.specs.Rewrite.{none, cell, processCell, ran, run}
-use Rattle.order_laws.specs.Ordered.{has}
-use Rattle.order_laws.specs.Members.{All, Drives, Wired}
+use Rattle.order_laws.specs.Members.{Drives, Wired}
 use Rattle.order_laws.specs.Ends.{Ends}
 use Rattle.unreached.specs.Steps.{EachCell, itemCell, EachItem}
 

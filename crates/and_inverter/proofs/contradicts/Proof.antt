@@ -4,7 +4,7 @@ use Rattle.and_inverter.proofs.contradicts.Tie as tie
 use Rattle.and_inverter.proofs.contradicts.Reads as reads
 use Rattle.and_inverter.proofs.contradicts.Lts as lts
 use Rattle.aig_arms.proofs.opposite.Reads as opposite-reads
-use Rattle.logic.proofs.either.Reads as either-reads
+use Rattle.basics.proofs.either.Reads as either-reads
 use Rattle.value.proofs.ControlNet.is_always.Reads as is-always-reads
 
 -- src/lib.rt

@@ -1,12 +1,12 @@
-use native.Mathlib.Omega.{arith}
 use mathlib.Core.Path.{_∙_}
+use native.Mathlib.Omega.{arith}
 use Rattle.cell.proofs.Laws.{storeRecord, storeRecord-is}
 use borrow.Author.Needs.{needs}
 use Rattle.cell.proofs.store_torn.Statement.{statement}
 use Rattle.cell.proofs.store_torn.Tie as tie
 use Rattle.cell.proofs.store_torn.Reads as reads
 use Rattle.cell.proofs.store_torn.Lts as lts
-use Rattle.cell.proofs.put_byte.Reads as put-byte-reads
+use Rattle.basics.proofs.put_byte.Reads as put-byte-reads
 use Rattle.cell.proofs.write16.Reads as write16-reads
 use Rattle.cell.proofs.write32.Reads as write32-reads
 

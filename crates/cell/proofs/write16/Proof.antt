@@ -1,12 +1,10 @@
 use Rattle.cell.specs.Bytes.{store16}
-use Rattle.cell.specs.Bytes.{bytes16}
-use native.Mathlib.Numerals.{add-one}
 use borrow.Author.Needs.{needs}
 use Rattle.cell.proofs.write16.Statement.{statement}
 use Rattle.cell.proofs.write16.Tie as tie
 use Rattle.cell.proofs.write16.Reads as reads
 use Rattle.cell.proofs.write16.Lts as lts
-use Rattle.cell.proofs.put_byte.Reads as put-byte-reads
+use Rattle.basics.proofs.put_byte.Reads as put-byte-reads
 
 -- src/lib.rt
 cast-put-byte : tie.Need-cast-put-byte

@@ -5,8 +5,8 @@ use Rattle.checking.proofs.follows.Tie as tie
 use Rattle.checking.proofs.follows.Reads as reads
 use Rattle.checking.proofs.follows.Lts as lts
 use Rattle.kinds.proofs.kind_of.Reads as kind-of-reads
-use Rattle.logic.proofs.both.Reads as both-reads
-use Rattle.logic.proofs.either.Reads as either-reads
+use Rattle.basics.proofs.both.Reads as both-reads
+use Rattle.basics.proofs.either.Reads as either-reads
 
 -- src/lib.rt
 cast-next : tie.Need-cast-next

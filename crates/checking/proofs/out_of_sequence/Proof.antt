@@ -6,7 +6,7 @@ use Rattle.checking.proofs.out_of_sequence.Reads as reads
 use Rattle.checking.proofs.out_of_sequence.Lts as lts
 use Rattle.kinds.proofs.kind_of.Reads as kind-of-reads
 use Rattle.checking.proofs.follows.Reads as follows-reads
-use Rattle.logic.proofs.either.Reads as either-reads
+use Rattle.basics.proofs.either.Reads as either-reads
 
 returns : tie.Need-returns
 returns c = search bit-first

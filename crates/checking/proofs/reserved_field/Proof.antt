@@ -6,7 +6,7 @@ use Rattle.checking.proofs.reserved_field.Reads as reads
 use Rattle.checking.proofs.reserved_field.Lts as lts
 use Rattle.kinds.proofs.kind_of.Reads as kind-of-reads
 use Rattle.checking.proofs.unused_not_zero.Reads as unused-not-zero-reads
-use Rattle.logic.proofs.either.Reads as either-reads
+use Rattle.basics.proofs.either.Reads as either-reads
 
 -- src/lib.rt
 kind-of-requires : tie.Need-kind-of-requires

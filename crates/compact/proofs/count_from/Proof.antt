@@ -5,7 +5,7 @@ use Rattle.compact.proofs.count_from.Tie as tie
 use Rattle.compact.proofs.count_from.Reads as reads
 use Rattle.compact.proofs.count_from.Lts as lts
 use Rattle.compact.proofs.count_between.Reads as count-between-reads
-use Rattle.logic.proofs.pick32.Reads as pick32-reads
+use Rattle.basics.proofs.pick32.Reads as pick32-reads
 
 -- src/lib.rt
 pick32-requires : tie.Need-pick32-requires

@@ -5,7 +5,7 @@ use Rattle.compact.proofs.count_kept.Tie as tie
 use Rattle.compact.proofs.count_kept.Reads as reads
 use Rattle.compact.proofs.count_kept.Lts as lts
 use Rattle.compact.proofs.count_from.Reads as count-from-reads
-use Rattle.logic.proofs.pick32.Reads as pick32-reads
+use Rattle.basics.proofs.pick32.Reads as pick32-reads
 
 -- src/lib.rt
 pick32-requires : tie.Need-pick32-requires

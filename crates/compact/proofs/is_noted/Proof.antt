@@ -4,7 +4,7 @@ use Rattle.compact.proofs.is_noted.Statement.{statement}
 use Rattle.compact.proofs.is_noted.Tie as tie
 use Rattle.compact.proofs.is_noted.Reads as reads
 use Rattle.compact.proofs.is_noted.Lts as lts
-use Rattle.cell.proofs.word.Reads as word-reads
+use Rattle.basics.proofs.word.Reads as word-reads
 
 -- src/lib.rt
 cast-word : tie.Need-cast-word

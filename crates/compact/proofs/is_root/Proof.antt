@@ -1,4 +1,4 @@
-use Rattle.compact.specs.Words.{isRoot}
+use Rattle.compact.specs.inner.Words.{isRoot}
 use borrow.Author.Needs.{needs}
 use Rattle.compact.proofs.is_root.Statement.{statement}
 use Rattle.compact.proofs.is_root.Tie as tie
@@ -6,7 +6,7 @@ use Rattle.compact.proofs.is_root.Reads as reads
 use Rattle.compact.proofs.is_root.Lts as lts
 use Rattle.cell.proofs.cell_of.Reads as cell-of-reads
 use Rattle.netlist.proofs.has_effects.Reads as has-effects-reads
-use Rattle.logic.proofs.both.Reads as both-reads
+use Rattle.basics.proofs.both.Reads as both-reads
 use Rattle.netlist.proofs.record_in.Reads as record-in-reads
 
 -- src/lib.rt

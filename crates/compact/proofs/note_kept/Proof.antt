@@ -6,9 +6,9 @@ use Rattle.compact.proofs.note_kept.Statement.{statement}
 use Rattle.compact.proofs.note_kept.Tie as tie
 use Rattle.compact.proofs.note_kept.Reads as reads
 use Rattle.compact.proofs.note_kept.Lts as lts
-use Rattle.cell.proofs.put.Reads as put-reads
+use Rattle.basics.proofs.put.Reads as put-reads
 use Rattle.compact.proofs.is_kept.Reads as is-kept-reads
-use Rattle.logic.proofs.pick32.Reads as pick32-reads
+use Rattle.basics.proofs.pick32.Reads as pick32-reads
 
 abbrev Inv-loop : tie.InvT-loop
 Inv-loop work₀ n s₀ work s = Noting n work₀ work s

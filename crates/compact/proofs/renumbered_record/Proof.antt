@@ -1,4 +1,4 @@
-use Rattle.netlist.specs.Fields.{renamedFields}
+use Rattle.netlist.specs.inner.Fields.{renamedFields}
 use borrow.Author.Needs.{needs}
 use Rattle.compact.proofs.renumbered_record.Statement.{statement}
 use Rattle.compact.proofs.renumbered_record.Tie as tie

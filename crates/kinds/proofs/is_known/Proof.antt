@@ -5,7 +5,7 @@ use Rattle.kinds.proofs.is_known.Statement.{statement}
 use Rattle.kinds.proofs.is_known.Tie as tie
 use Rattle.kinds.proofs.is_known.Reads as reads
 use Rattle.kinds.proofs.is_known.Lts as lts
-use Rattle.logic.proofs.both.Reads as both-reads
+use Rattle.basics.proofs.both.Reads as both-reads
 
 -- src/lib.rt:145:5
 both-requires : tie.Need-both-requires

@@ -5,7 +5,7 @@ use Rattle.kinds.proofs.net_in_a.Statement.{statement}
 use Rattle.kinds.proofs.net_in_a.Tie as tie
 use Rattle.kinds.proofs.net_in_a.Reads as reads
 use Rattle.kinds.proofs.net_in_a.Lts as lts
-use Rattle.logic.proofs.both.Reads as both-reads
+use Rattle.basics.proofs.both.Reads as both-reads
 
 -- src/lib.rt:152:5
 both-requires : tie.Need-both-requires

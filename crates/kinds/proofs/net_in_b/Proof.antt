@@ -5,7 +5,7 @@ use Rattle.kinds.proofs.net_in_b.Statement.{statement}
 use Rattle.kinds.proofs.net_in_b.Tie as tie
 use Rattle.kinds.proofs.net_in_b.Reads as reads
 use Rattle.kinds.proofs.net_in_b.Lts as lts
-use Rattle.logic.proofs.both.Reads as both-reads
+use Rattle.basics.proofs.both.Reads as both-reads
 
 -- src/lib.rt:158:5
 both-requires : tie.Need-both-requires

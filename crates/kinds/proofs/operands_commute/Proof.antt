@@ -5,8 +5,8 @@ use Rattle.kinds.proofs.operands_commute.Statement.{statement}
 use Rattle.kinds.proofs.operands_commute.Tie as tie
 use Rattle.kinds.proofs.operands_commute.Reads as reads
 use Rattle.kinds.proofs.operands_commute.Lts as lts
-use Rattle.logic.proofs.both.Reads as both-reads
-use Rattle.logic.proofs.either.Reads as either-reads
+use Rattle.basics.proofs.both.Reads as both-reads
+use Rattle.basics.proofs.either.Reads as either-reads
 
 -- src/lib.rt:178:12
 both-requires : tie.Need-both-requires

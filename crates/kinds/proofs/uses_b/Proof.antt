@@ -5,8 +5,8 @@ use Rattle.kinds.proofs.uses_b.Statement.{statement}
 use Rattle.kinds.proofs.uses_b.Tie as tie
 use Rattle.kinds.proofs.uses_b.Reads as reads
 use Rattle.kinds.proofs.uses_b.Lts as lts
-use Rattle.logic.proofs.both.Reads as both-reads
-use Rattle.logic.proofs.either.Reads as either-reads
+use Rattle.basics.proofs.both.Reads as both-reads
+use Rattle.basics.proofs.either.Reads as either-reads
 
 -- src/lib.rt:171:23
 both-requires : tie.Need-both-requires

@@ -6,7 +6,7 @@ use Rattle.levels.proofs.fold.Statement.{statement}
 use Rattle.levels.proofs.fold.Tie as tie
 use Rattle.levels.proofs.fold.Reads as reads
 use Rattle.levels.proofs.fold.Lts as lts
-use Rattle.cell.proofs.word.Reads as word-reads
+use Rattle.basics.proofs.word.Reads as word-reads
 use Rattle.levels.proofs.update.Reads as update-reads
 
 abbrev Inv-loop : tie.InvT-loop

@@ -4,7 +4,7 @@ use Rattle.levels.proofs.level_at.Statement.{statement}
 use Rattle.levels.proofs.level_at.Tie as tie
 use Rattle.levels.proofs.level_at.Reads as reads
 use Rattle.levels.proofs.level_at.Lts as lts
-use Rattle.cell.proofs.word.Reads as word-reads
+use Rattle.basics.proofs.word.Reads as word-reads
 use Rattle.logic.proofs.Trit.from_byte.Reads as from-byte-reads
 
 -- src/lib.rt

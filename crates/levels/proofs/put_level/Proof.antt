@@ -3,7 +3,7 @@ use Rattle.levels.proofs.put_level.Statement.{statement}
 use Rattle.levels.proofs.put_level.Tie as tie
 use Rattle.levels.proofs.put_level.Reads as reads
 use Rattle.levels.proofs.put_level.Lts as lts
-use Rattle.cell.proofs.put.Reads as put-reads
+use Rattle.basics.proofs.put.Reads as put-reads
 use Rattle.logic.proofs.Trit.to_byte.Reads as to-byte-reads
 
 -- src/lib.rt

@@ -4,7 +4,7 @@ use Rattle.levels.proofs.stimulus_level.Statement.{statement}
 use Rattle.levels.proofs.stimulus_level.Tie as tie
 use Rattle.levels.proofs.stimulus_level.Reads as reads
 use Rattle.levels.proofs.stimulus_level.Lts as lts
-use Rattle.cell.proofs.byte.Reads as byte-reads
+use Rattle.basics.proofs.byte.Reads as byte-reads
 use Rattle.logic.proofs.Trit.from_byte.Reads as from-byte-reads
 
 -- src/lib.rt

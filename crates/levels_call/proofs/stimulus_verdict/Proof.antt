@@ -7,7 +7,7 @@ use Rattle.levels_call.proofs.stimulus_verdict.Statement.{statement}
 use Rattle.levels_call.proofs.stimulus_verdict.Tie as tie
 use Rattle.levels_call.proofs.stimulus_verdict.Reads as reads
 use Rattle.levels_call.proofs.stimulus_verdict.Lts as lts
-use Rattle.cell.proofs.byte.Reads as byte-reads
+use Rattle.basics.proofs.byte.Reads as byte-reads
 use Rattle.levels.proofs.count_kind.Reads as count-kind-reads
 
 abbrev Inv-loop : tie.InvT-loop

@@ -8,7 +8,7 @@ use Rattle.levels_call.proofs.write_at.Statement.{statement}
 use Rattle.levels_call.proofs.write_at.Tie as tie
 use Rattle.levels_call.proofs.write_at.Reads as reads
 use Rattle.levels_call.proofs.write_at.Lts as lts
-use Rattle.cell.proofs.put_byte.Reads as put-byte-reads
+use Rattle.basics.proofs.put_byte.Reads as put-byte-reads
 use Rattle.levels.proofs.level_at.Reads as level-at-reads
 use Rattle.logic.proofs.Trit.to_byte.Reads as to-byte-reads
 use Rattle.netlist.proofs.record_in.Reads as record-in-reads

@@ -4,7 +4,7 @@ use borrow.Author.Needs.{needs}
 use native.Mathlib.Omega.{arith}
 use lib.ListN.{length}
 use Rattle.cell.specs.Records.{recordsOf}
-use Rattle.loops.specs.Walk.{unvisited}
+use Rattle.loops.specs.inner.Walk.{unvisited}
 use Rattle.loops.proofs.Marks.{opens}
 use Rattle.loops.proofs.Steps.{meet-new, meet-visited, meet-open, meet-passed, meet-finished, edges-inside, edges-looped, edges-ready, edges-falls, edges-more, more-looped, more-falls, more-ready, edge-nowhere, edge-coming, edge-met, visit-falls, visit-looped, visit-next, visit-done}
 use Prim.Native.Nat.{ℕ, _+_, _*_, _<_}
@@ -23,9 +23,9 @@ use Rattle.loops.proofs.visit_edges.Reads as visit-edges
 use Rattle.loops.proofs.visit_edges.Kinds as visit-edges-kinds
 use Rattle.loops.proofs.+meet+visit+visit_edge+visit_edges.Lts-visit_edges as visit-edges-lts
 use Rattle.cell.proofs.edge_at.Reads as edge-at-reads
-use Rattle.cell.proofs.put.Reads as put-reads
+use Rattle.basics.proofs.put.Reads as put-reads
 use Rattle.cell.proofs.record_at.Reads as record-at-reads
-use Rattle.cell.proofs.word.Reads as word-reads
+use Rattle.basics.proofs.word.Reads as word-reads
 use Rattle.loops.proofs.stops.Reads as stops-reads
 use Rattle.loops.proofs.+meet+visit+visit_edge+visit_edges.{statement}
 use Rattle.loops.proofs.+meet+visit+visit_edge+visit_edges.Tie.{close}

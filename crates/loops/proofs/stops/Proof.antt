@@ -1,5 +1,5 @@
 use borrow.Author.Needs.{needs}
-use Rattle.loops.specs.Walk.{stopsAt}
+use Rattle.loops.specs.inner.Walk.{stopsAt}
 use Rattle.loops.proofs.stops.Statement.{statement}
 use Rattle.loops.proofs.stops.Tie as tie
 

@@ -1,13 +1,13 @@
 -- `merge::is_turned` meets its contract. Assumes nothing.
-use Rattle.merge.specs.Words.{turned}
+use Rattle.merge.specs.inner.Words.{turned}
 use borrow.Author.Needs.{needs}
 use Rattle.merge.proofs.is_turned.Statement.{statement}
 use Rattle.merge.proofs.is_turned.Tie as tie
 use Rattle.merge.proofs.is_turned.Reads as reads
 use Rattle.merge.proofs.is_turned.Lts as lts
 use Rattle.kinds.proofs.operands_commute.Reads as operands-commute-reads
-use Rattle.logic.proofs.both.Reads as both-reads
-use Rattle.logic.proofs.either.Reads as either-reads
+use Rattle.basics.proofs.both.Reads as both-reads
+use Rattle.basics.proofs.either.Reads as either-reads
 
 -- src/lib.rt
 both-requires : tie.Need-both-requires

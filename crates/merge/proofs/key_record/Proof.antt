@@ -1,12 +1,12 @@
 -- `merge::key_record` meets its contract. Assumes nothing.
-use Rattle.merge.specs.Words.{keyFields}
+use Rattle.merge.specs.inner.Words.{keyFields}
 use borrow.Author.Needs.{needs}
 use Rattle.merge.proofs.key_record.Statement.{statement}
 use Rattle.merge.proofs.key_record.Tie as tie
 use Rattle.merge.proofs.key_record.Reads as reads
 use Rattle.merge.proofs.key_record.Lts as lts
-use Rattle.logic.proofs.pick32.Reads as pick32-reads
-use Rattle.logic.proofs.pick8.Reads as pick8-reads
+use Rattle.basics.proofs.pick32.Reads as pick32-reads
+use Rattle.basics.proofs.pick8.Reads as pick8-reads
 use Rattle.merge.proofs.is_turned.Reads as is-turned-reads
 
 -- src/lib.rt

@@ -7,7 +7,7 @@ use Rattle.merge.proofs.merge_cells.Statement.{statement}
 use Rattle.merge.proofs.merge_cells.Tie as tie
 use Rattle.merge.proofs.merge_cells.Reads as reads
 use Rattle.merge.proofs.merge_cells.Lts as lts
-use Rattle.cell.proofs.word.Reads as word-reads
+use Rattle.basics.proofs.word.Reads as word-reads
 use Rattle.merge.proofs.merge_next.Reads as merge-next-reads
 
 abbrev Inv-loop : tie.InvT-loop

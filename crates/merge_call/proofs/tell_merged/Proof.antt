@@ -6,7 +6,7 @@ use Rattle.merge_call.proofs.tell_merged.Reads as reads
 use Rattle.merge_call.proofs.tell_merged.Lts as lts
 use Rattle.delivery.proofs.accept.Reads as accept-reads
 use Rattle.delivery.proofs.refuse.Reads as refuse-reads
-use Rattle.logic.proofs.pick32.Reads as pick32-reads
+use Rattle.basics.proofs.pick32.Reads as pick32-reads
 
 -- src/lib.rt
 enum-known-m : tie.Need-enum-known-m

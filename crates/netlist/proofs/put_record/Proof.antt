@@ -1,10 +1,10 @@
-use Rattle.netlist.specs.Areas.{storeWords}
+use Rattle.netlist.specs.inner.Areas.{storeWords}
 use borrow.Author.Needs.{needs}
 use Rattle.netlist.proofs.put_record.Statement.{statement}
 use Rattle.netlist.proofs.put_record.Tie as tie
 use Rattle.netlist.proofs.put_record.Reads as reads
 use Rattle.netlist.proofs.put_record.Lts as lts
-use Rattle.cell.proofs.put.Reads as put-reads
+use Rattle.basics.proofs.put.Reads as put-reads
 
 -- src/lib.rt
 cast-i : tie.Need-cast-i

@@ -1,10 +1,10 @@
-use Rattle.netlist.specs.Areas.{wordRecord}
+use Rattle.netlist.specs.inner.Areas.{wordRecord}
 use borrow.Author.Needs.{needs}
 use Rattle.netlist.proofs.record_in.Statement.{statement}
 use Rattle.netlist.proofs.record_in.Tie as tie
 use Rattle.netlist.proofs.record_in.Reads as reads
 use Rattle.netlist.proofs.record_in.Lts as lts
-use Rattle.cell.proofs.word.Reads as word-reads
+use Rattle.basics.proofs.word.Reads as word-reads
 
 -- src/lib.rt
 cast-i : tie.Need-cast-i

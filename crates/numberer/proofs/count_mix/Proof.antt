@@ -7,7 +7,7 @@ use Rattle.numberer.proofs.count_mix.Statement.{statement}
 use Rattle.numberer.proofs.count_mix.Tie as tie
 use Rattle.numberer.proofs.count_mix.Reads as reads
 use Rattle.numberer.proofs.count_mix.Lts as lts
-use Rattle.logic.proofs.pick32.Reads as pick32-reads
+use Rattle.basics.proofs.pick32.Reads as pick32-reads
 
 abbrev Inv-loop : tie.InvT-loop
 Inv-loop work k x end i₀ count₀ i count = Counting x work i count

@@ -5,7 +5,7 @@ use Rattle.numberer.proofs.insert.Statement.{statement}
 use Rattle.numberer.proofs.insert.Tie as tie
 use Rattle.numberer.proofs.insert.Reads as reads
 use Rattle.numberer.proofs.insert.Lts as lts
-use Rattle.cell.proofs.put.Reads as put-reads
+use Rattle.basics.proofs.put.Reads as put-reads
 use Rattle.numberer.proofs.mix.Reads as mix-reads
 use Rattle.netlist.proofs.put_record.Reads as put-record-reads
 

@@ -1,5 +1,5 @@
 -- `numberer::mix` meets its contract. Assumes nothing.
-use Rattle.numberer.specs.Words.{mixOf}
+use Rattle.numberer.specs.inner.Words.{mixOf}
 use borrow.Author.Needs.{needs}
 use Rattle.numberer.proofs.mix.Statement.{statement}
 use Rattle.numberer.proofs.mix.Tie as tie

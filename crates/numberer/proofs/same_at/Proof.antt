@@ -5,7 +5,7 @@ use Rattle.numberer.proofs.same_at.Statement.{statement}
 use Rattle.numberer.proofs.same_at.Tie as tie
 use Rattle.numberer.proofs.same_at.Reads as reads
 use Rattle.numberer.proofs.same_at.Lts as lts
-use Rattle.cell.proofs.word.Reads as word-reads
+use Rattle.basics.proofs.word.Reads as word-reads
 use Rattle.numberer.proofs.same_key.Reads as same-key-reads
 use Rattle.netlist.proofs.record_in.Reads as record-in-reads
 

@@ -5,7 +5,7 @@ use Rattle.numberer.proofs.same_key.Statement.{statement}
 use Rattle.numberer.proofs.same_key.Tie as tie
 use Rattle.numberer.proofs.same_key.Reads as reads
 use Rattle.numberer.proofs.same_key.Lts as lts
-use Rattle.logic.proofs.both.Reads as both-reads
+use Rattle.basics.proofs.both.Reads as both-reads
 
 -- src/lib.rt
 both-requires : tie.Need-both-requires

@@ -3,7 +3,7 @@
 use borrow.Author.Needs.{needs}
 use native.Mathlib.Omega.{arith}
 use lib.Dec.{lit≤}
-use Rattle.order.specs.Code.{unvisitedIn}
+use Rattle.order.specs.inner.Code.{unvisitedIn}
 use Rattle.order.proofs.Walking.{walks-visited, walks-ready, walks-falls, walks-falls-2, walks-ready-2, is-new, marked-falls, marked-ready}
 use Rattle.order.proofs.Bits.{net-constant, net-source, net-bit, operands-done, bit-next, bit-done}
 use Prim.Native.Nat.{ℕ, _+_, _*_, _<_}
@@ -21,8 +21,8 @@ use Rattle.order.proofs.+visit_bit+walk_bit+walk_net+walk_operands.Lts-
 use Rattle.order.proofs.walk_operands.Reads as walk-operands
 use Rattle.order.proofs.walk_operands.Kinds as walk-operands-kinds
 use Rattle.order.proofs.+visit_bit+walk_bit+walk_net+walk_operands.Lts-walk_operands as walk-operands-lts
-use Rattle.cell.proofs.put.Reads as put-reads
-use Rattle.order.proofs.is_source.Reads as is-source-reads
+use Rattle.basics.proofs.put.Reads as put-reads
+use Rattle.netlist.proofs.is_source.Reads as is-source-reads
 use Rattle.order.proofs.is_visited.Reads as is-visited-reads
 use Rattle.order.proofs.operands_at.Reads as operands-at-reads
 use Rattle.value.proofs.Net.as_cell_index.Reads as as-cell-index-reads

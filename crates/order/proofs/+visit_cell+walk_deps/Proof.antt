@@ -3,7 +3,7 @@
 use borrow.Author.Needs.{needs}
 use native.Mathlib.Omega.{arith}
 use lib.Dec.{lit≤}
-use Rattle.order.specs.Code.{unvisitedIn}
+use Rattle.order.specs.inner.Code.{unvisitedIn}
 use Rattle.order.proofs.Words.{new-below}
 use Rattle.order.proofs.Walking.{walks-ready, marked-falls, marked-ready}
 use Rattle.order.proofs.Cells.{deps-none, deps-new, deps-falls, deps-more, cell-next, cell-done}
@@ -17,7 +17,7 @@ use Rattle.order.proofs.+visit_cell+walk_deps.Lts-visit_cell as visit-c
 use Rattle.order.proofs.walk_deps.Reads as walk-deps
 use Rattle.order.proofs.walk_deps.Kinds as walk-deps-kinds
 use Rattle.order.proofs.+visit_cell+walk_deps.Lts-walk_deps as walk-deps-lts
-use Rattle.cell.proofs.put.Reads as put-reads
+use Rattle.basics.proofs.put.Reads as put-reads
 use Rattle.order.proofs.next_dep.Reads as next-dep-reads
 use Rattle.order.proofs.+visit_cell+walk_deps.{statement}
 use Rattle.order.proofs.+visit_cell+walk_deps.Tie.{close}

@@ -1,5 +1,5 @@
 -- `order::operands_at` meets its contract. Assumes nothing.
-use Rattle.order.specs.Descent.{fieldOperands}
+use Rattle.order.specs.inner.Descent.{fieldOperands}
 use Rattle.order.proofs.Fields.{field-operands}
 use borrow.Author.Needs.{needs}
 use Rattle.order.proofs.operands_at.Statement.{statement}

@@ -1,6 +1,6 @@
 -- `order::walk_starts` meets its contract. Assumes nothing.
 use Prim.Native.Nat.{_-_}
-use Rattle.order.specs.Starts.{notOutput}
+use Rattle.order.specs.inner.Starts.{notOutput}
 use Rattle.order.proofs.Starts.{Going, going-begins, going-more, going-ends}
 use borrow.Author.Needs.{needs}
 use Rattle.order.proofs.walk_starts.Statement.{statement}

@@ -7,7 +7,7 @@ use Rattle.rewriter_state.proofs.clear_stamps.Statement.{statement}
 use Rattle.rewriter_state.proofs.clear_stamps.Tie as tie
 use Rattle.rewriter_state.proofs.clear_stamps.Reads as reads
 use Rattle.rewriter_state.proofs.clear_stamps.Lts as lts
-use Rattle.cell.proofs.put.Reads as put-reads
+use Rattle.basics.proofs.put.Reads as put-reads
 
 abbrev Inv-loop : tie.InvT-loop
 Inv-loop work₀ n s₀ work s = Unstamping n work₀ work s

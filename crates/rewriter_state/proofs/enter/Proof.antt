@@ -7,7 +7,7 @@ use Rattle.rewriter_state.proofs.enter.Tie as tie
 use Rattle.rewriter_state.proofs.enter.Reads as reads
 use Rattle.rewriter_state.proofs.enter.Lts as lts
 use Rattle.cell.proofs.cell_record.Reads as cell-record-reads
-use Rattle.cell.proofs.put.Reads as put-reads
+use Rattle.basics.proofs.put.Reads as put-reads
 use Rattle.netlist.proofs.put_record.Reads as put-record-reads
 use Rattle.rewriter_state.proofs.remember.Reads as remember-reads
 use Rattle.value.proofs.Net.from_cell_index.Reads as from-cell-index-reads

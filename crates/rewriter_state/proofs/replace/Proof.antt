@@ -5,7 +5,7 @@ use Rattle.rewriter_state.proofs.replace.Statement.{statement}
 use Rattle.rewriter_state.proofs.replace.Tie as tie
 use Rattle.rewriter_state.proofs.replace.Reads as reads
 use Rattle.rewriter_state.proofs.replace.Lts as lts
-use Rattle.cell.proofs.put.Reads as put-reads
+use Rattle.basics.proofs.put.Reads as put-reads
 use Rattle.design.proofs.queue.replace_net.Reads as replace-net-reads
 
 -- src/lib.rt

@@ -5,7 +5,7 @@ use Rattle.rewriter_state.proofs.stamp_of.Statement.{statement}
 use Rattle.rewriter_state.proofs.stamp_of.Tie as tie
 use Rattle.rewriter_state.proofs.stamp_of.Reads as reads
 use Rattle.rewriter_state.proofs.stamp_of.Lts as lts
-use Rattle.cell.proofs.word.Reads as word-reads
+use Rattle.basics.proofs.word.Reads as word-reads
 use Rattle.value.proofs.Net.as_cell_index.Reads as as-cell-index-reads
 
 -- src/lib.rt

@@ -1,5 +1,5 @@
 -- `rewriter_state::stand` meets its contract. Assumes nothing.
-use Rattle.rewriter_state.proofs.Standing.{Standing, standing-none, standing-more, standing-all, standing-fits}
+use Rattle.rewriter_state.proofs.Standing.{Standing, standing-none, standing-more, standing-all}
 use Prim.Native.Nat.{_-_}
 use native.Mathlib.Omega.{arith}
 use borrow.Author.Needs.{needs}
@@ -7,7 +7,7 @@ use Rattle.rewriter_state.proofs.stand.Statement.{statement}
 use Rattle.rewriter_state.proofs.stand.Tie as tie
 use Rattle.rewriter_state.proofs.stand.Reads as reads
 use Rattle.rewriter_state.proofs.stand.Lts as lts
-use Rattle.cell.proofs.put.Reads as put-reads
+use Rattle.basics.proofs.put.Reads as put-reads
 use Rattle.value.proofs.Net.from_cell_index.Reads as from-cell-index-reads
 
 abbrev Inv-loop : tie.InvT-loop

@@ -5,7 +5,7 @@ use Rattle.rewriter_state.proofs.stay.Statement.{statement}
 use Rattle.rewriter_state.proofs.stay.Tie as tie
 use Rattle.rewriter_state.proofs.stay.Reads as reads
 use Rattle.rewriter_state.proofs.stay.Lts as lts
-use Rattle.cell.proofs.put.Reads as put-reads
+use Rattle.basics.proofs.put.Reads as put-reads
 use Rattle.rewriter_state.proofs.remember.Reads as remember-reads
 
 -- src/lib.rt

@@ -1,4 +1,4 @@
-use Rattle.aig.specs.Sources.{aigIn}
+use Rattle.aig.specs.inner.Sources.{aigIn}
 use borrow.Author.Needs.{needs}
 use Rattle.aig.proofs.source.aig_in.Statement.{statement}
 use Rattle.aig.proofs.source.aig_in.Tie as tie

@@ -1,4 +1,4 @@
-use Rattle.aig.specs.Sources.{notIn}
+use Rattle.aig.specs.inner.Sources.{notIn}
 use borrow.Author.Needs.{needs}
 use Rattle.aig.proofs.source.not_in.Statement.{statement}
 use Rattle.aig.proofs.source.not_in.Tie as tie

@@ -1,4 +1,4 @@
-use Rattle.aig.specs.Sources.{xorIn}
+use Rattle.aig.specs.inner.Sources.{xorIn}
 use borrow.Author.Needs.{needs}
 use Rattle.aig.proofs.source.xor_in.Statement.{statement}
 use Rattle.aig.proofs.source.xor_in.Tie as tie

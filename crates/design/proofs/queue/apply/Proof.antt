@@ -7,7 +7,7 @@ use Rattle.design.proofs.queue.apply.Tie as tie
 use Rattle.design.proofs.queue.apply.Reads as reads
 use Rattle.design.proofs.queue.apply.Lts as lts
 use Rattle.design.proofs.queue.apply_to.Reads as apply-to-reads
-use Rattle.logic.proofs.either.Reads as either-reads
+use Rattle.basics.proofs.either.Reads as either-reads
 
 abbrev Inv-loop : tie.InvT-loop
 Inv-loop work₀ n changed₀ s₀ work changed s = Applying n work₀ work changed s

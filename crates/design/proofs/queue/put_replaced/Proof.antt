@@ -1,4 +1,4 @@
-use Rattle.netlist.specs.Fields.{renamedFields}
+use Rattle.netlist.specs.inner.Fields.{renamedFields}
 use borrow.Author.Needs.{needs}
 use Rattle.design.proofs.queue.put_replaced.Statement.{statement}
 use Rattle.design.proofs.queue.put_replaced.Tie as tie

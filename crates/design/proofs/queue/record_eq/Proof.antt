@@ -4,7 +4,7 @@ use Rattle.design.proofs.queue.record_eq.Statement.{statement}
 use Rattle.design.proofs.queue.record_eq.Tie as tie
 use Rattle.design.proofs.queue.record_eq.Reads as reads
 use Rattle.design.proofs.queue.record_eq.Lts as lts
-use Rattle.logic.proofs.both.Reads as both-reads
+use Rattle.basics.proofs.both.Reads as both-reads
 
 -- src/queue.rt
 both-requires : tie.Need-both-requires

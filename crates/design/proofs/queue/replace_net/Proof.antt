@@ -4,7 +4,7 @@ use Rattle.design.proofs.queue.replace_net.Statement.{statement}
 use Rattle.design.proofs.queue.replace_net.Tie as tie
 use Rattle.design.proofs.queue.replace_net.Reads as reads
 use Rattle.design.proofs.queue.replace_net.Lts as lts
-use Rattle.cell.proofs.put.Reads as put-reads
+use Rattle.basics.proofs.put.Reads as put-reads
 
 -- src/queue.rt
 cast-put : tie.Need-cast-put

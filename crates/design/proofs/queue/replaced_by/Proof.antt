@@ -4,7 +4,7 @@ use Rattle.design.proofs.queue.replaced_by.Statement.{statement}
 use Rattle.design.proofs.queue.replaced_by.Tie as tie
 use Rattle.design.proofs.queue.replaced_by.Reads as reads
 use Rattle.design.proofs.queue.replaced_by.Lts as lts
-use Rattle.cell.proofs.word.Reads as word-reads
+use Rattle.basics.proofs.word.Reads as word-reads
 use Rattle.value.proofs.Net.as_cell_index.Reads as as-cell-index-reads
 
 -- src/queue.rt

@@ -6,7 +6,7 @@ use Rattle.design.proofs.queue.unchanged.Statement.{statement}
 use Rattle.design.proofs.queue.unchanged.Tie as tie
 use Rattle.design.proofs.queue.unchanged.Reads as reads
 use Rattle.design.proofs.queue.unchanged.Lts as lts
-use Rattle.cell.proofs.put.Reads as put-reads
+use Rattle.basics.proofs.put.Reads as put-reads
 use Rattle.value.proofs.Net.from_cell_index.Reads as from-cell-index-reads
 
 abbrev Inv-loop : tie.InvT-loop

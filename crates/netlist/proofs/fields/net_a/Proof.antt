@@ -2,14 +2,14 @@ use mathlib.Core.Path.{ap, _∙_}
 use Rattle.value.specs.Value.{netAt}
 use Rattle.kinds.specs.Kinds.{useOf}
 use Rattle.cell.specs.Operands.{fieldOf, isOperand}
-use Rattle.netlist.specs.Fields.{operandAt}
+use Rattle.netlist.specs.inner.Fields.{operandAt}
 use borrow.Author.Needs.{needs}
 use Rattle.netlist.proofs.fields.net_a.Statement.{statement}
 use Rattle.netlist.proofs.fields.net_a.Tie as tie
 use Rattle.netlist.proofs.fields.net_a.Reads as reads
 use Rattle.netlist.proofs.fields.net_a.Lts as lts
 use Rattle.kinds.proofs.net_in_a.Reads as net-in-a-reads
-use Rattle.logic.proofs.pick32.Reads as pick32-reads
+use Rattle.basics.proofs.pick32.Reads as pick32-reads
 
 -- src/fields.rt:27:23
 net-in-a-requires : tie.Need-net-in-a-requires

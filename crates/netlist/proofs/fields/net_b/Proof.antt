@@ -2,14 +2,14 @@ use mathlib.Core.Path.{ap, _∙_}
 use Rattle.value.specs.Value.{netAt}
 use Rattle.kinds.specs.Kinds.{useOf}
 use Rattle.cell.specs.Operands.{fieldOf, isOperand}
-use Rattle.netlist.specs.Fields.{operandAt}
+use Rattle.netlist.specs.inner.Fields.{operandAt}
 use borrow.Author.Needs.{needs}
 use Rattle.netlist.proofs.fields.net_b.Statement.{statement}
 use Rattle.netlist.proofs.fields.net_b.Tie as tie
 use Rattle.netlist.proofs.fields.net_b.Reads as reads
 use Rattle.netlist.proofs.fields.net_b.Lts as lts
 use Rattle.kinds.proofs.net_in_b.Reads as net-in-b-reads
-use Rattle.logic.proofs.pick32.Reads as pick32-reads
+use Rattle.basics.proofs.pick32.Reads as pick32-reads
 
 -- src/fields.rt:33:23
 net-in-b-requires : tie.Need-net-in-b-requires

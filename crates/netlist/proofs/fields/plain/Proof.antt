@@ -1,4 +1,4 @@
-use Rattle.netlist.specs.Fields.{plainFields}
+use Rattle.netlist.specs.inner.Fields.{plainFields}
 use Rattle.netlist.proofs.Operands.{plain-is}
 use borrow.Author.Needs.{needs}
 use Rattle.netlist.proofs.fields.plain.Statement.{statement}
@@ -9,8 +9,8 @@ use Rattle.kinds.proofs.has_flags.Reads as has-flags-reads
 use Rattle.kinds.proofs.is_known.Reads as is-known-reads
 use Rattle.kinds.proofs.net_in_c.Reads as net-in-c-reads
 use Rattle.kinds.proofs.uses_b.Reads as uses-b-reads
-use Rattle.logic.proofs.pick32.Reads as pick32-reads
-use Rattle.logic.proofs.pick8.Reads as pick8-reads
+use Rattle.basics.proofs.pick32.Reads as pick32-reads
+use Rattle.basics.proofs.pick8.Reads as pick8-reads
 
 -- src/fields.rt:12:9
 is-known-requires : tie.Need-is-known-requires

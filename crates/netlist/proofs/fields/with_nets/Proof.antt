@@ -1,6 +1,6 @@
 use Rattle.kinds.specs.Kinds.{useOf}
 use Rattle.cell.specs.Operands.{fieldOf, isOperand}
-use Rattle.netlist.specs.Fields.{withNets}
+use Rattle.netlist.specs.inner.Fields.{withNets}
 use borrow.Author.Needs.{needs}
 use Rattle.netlist.proofs.fields.with_nets.Statement.{statement}
 use Rattle.netlist.proofs.fields.with_nets.Tie as tie
@@ -9,7 +9,7 @@ use Rattle.netlist.proofs.fields.with_nets.Lts as lts
 use Rattle.kinds.proofs.net_in_a.Reads as net-in-a-reads
 use Rattle.kinds.proofs.net_in_b.Reads as net-in-b-reads
 use Rattle.kinds.proofs.net_in_c.Reads as net-in-c-reads
-use Rattle.logic.proofs.pick32.Reads as pick32-reads
+use Rattle.basics.proofs.pick32.Reads as pick32-reads
 
 -- src/fields.rt:50:26
 net-in-a-requires : tie.Need-net-in-a-requires

@@ -7,7 +7,7 @@ use Rattle.rewriter.proofs.run.run_items.Statement.{statement}
 use Rattle.rewriter.proofs.run.run_items.Tie as tie
 use Rattle.rewriter.proofs.run.run_items.Reads as reads
 use Rattle.rewriter.proofs.run.run_items.Lts as lts
-use Rattle.cell.proofs.word.Reads as word-reads
+use Rattle.basics.proofs.word.Reads as word-reads
 use Rattle.rewriter.proofs.run.run_item.Reads as run-item-reads
 
 abbrev Inv-loop : tie.InvT-loop

@@ -1,0 +1,3 @@
+-- What the contracts of inner functions cite. Public contracts cite none of it.
+pub mod Fields
+pub mod Areas
