@@ -7,7 +7,6 @@ ghost use lib.ListN.{length};
 ghost use Rattle.cell.specs.Records.{recordsOf};
 ghost use Rattle.checking.specs.Checking.{gateCount};
 ghost use Rattle.calls.specs.Work.{cleared};
-ghost use Rattle.calls.specs.Answers.{checkFigures, wordsOf};
 ghost use Rattle.calls.specs.Calls.{checkAnswer};
 
 // The counts of a ticket that passed.
@@ -29,16 +28,5 @@ pub fn check(ticket: &[u8], work: &mut [u32]) -> Checked
     match v {
         Verdict::Refused(x) => Checked::Refused(x),
         Verdict::Pass => accepted(ticket),
-    }
-}
-
-// The answer words, and the number.
-pub fn tell_checked(k: Checked, answer: &mut [u32; 8]) -> u32
-    ensures { λ r. ⌜ r ≡ checkFigures k .number ⌝ }
-    ensures { λ _. ⌜ now (answer .exit) ≡ wordsOf (checkFigures k) ⌝ }
-{
-    match k {
-        Checked::Accepted(records, gates) => delivery::accept(answer, records, gates),
-        Checked::Refused(x) => delivery::refuse(answer, x),
     }
 }

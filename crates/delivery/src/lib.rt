@@ -1,5 +1,4 @@
-// What the calls have in common: their shell, which checks the ticket and wipes the work slice; a netlist put into the reply; the answer
-// words for C.
+// What the calls have in common: their shell, which checks the ticket and wipes the work slice; a netlist put into the reply.
 use calls::Written;
 use checking::Refusal;
 use checking::Verdict;
@@ -7,7 +6,6 @@ ghost use mathlib.Core.Path.{_≡_};
 ghost use Prim.Native.Nat.{_≤_};
 ghost use lib.ListN.{length};
 ghost use Rattle.calls.specs.Work.{wiped, cleared};
-ghost use Rattle.calls.specs.Answers.{accepted, refused, writtenFigures, wordsOf};
 ghost use Rattle.delivery.specs.inner.Delivery.{Delivers, Begins, compactedIn};
 
 // The begin of every call, with any work slice: refusals 1 to 8. A slice that is too short is not touched.
@@ -54,34 +52,4 @@ pub fn deliver(work: &mut [u32], n: u32, reply: &mut [u8]) -> Written
     }
     compact::compact(work, n, reply);
     Written::Accepted(bytes)
-}
-
-// The answer words of an accepted ticket, and the number.
-pub fn accept(answer: &mut [u32; 8], count: u32, extra: u32) -> u32
-    ensures { λ r. ⌜ r ≡ accepted count extra .number ⌝ }
-    ensures { λ _. ⌜ now (answer .exit) ≡ wordsOf (accepted count extra) ⌝ }
-{
-    *answer = [0, count, extra, 0, 0, 0, 0, 0];
-    0
-}
-
-// The answer words of a refusal, and the number.
-pub fn refuse(answer: &mut [u32; 8], x: Refusal) -> u32
-    ensures { λ r. ⌜ r ≡ refused x .number ⌝ }
-    ensures { λ _. ⌜ now (answer .exit) ≡ wordsOf (refused x) ⌝ }
-{
-    let f = checking::figures_of(x);
-    *answer = [f.place, 0, 0, 0, 0, 0, 0, 0];
-    f.number
-}
-
-// The answer words of a call that counts the bytes written, and the number.
-pub fn tell_written(w: Written, answer: &mut [u32; 8]) -> u32
-    ensures { λ r. ⌜ r ≡ writtenFigures w .number ⌝ }
-    ensures { λ _. ⌜ now (answer .exit) ≡ wordsOf (writtenFigures w) ⌝ }
-{
-    match w {
-        Written::Accepted(bytes) => accept(answer, bytes, 0),
-        Written::Refused(x) => refuse(answer, x),
-    }
 }

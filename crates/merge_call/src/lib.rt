@@ -6,7 +6,6 @@ ghost use mathlib.Core.Path.{_≡_};
 ghost use Prim.Native.Nat.{_/_};
 ghost use lib.ListN.{length};
 ghost use Rattle.calls.specs.Work.{cleared};
-ghost use Rattle.calls.specs.Answers.{mergedFigures, wordsOf};
 ghost use Rattle.calls.specs.Calls.{mergeAnswer, mergeReply};
 ghost use Rattle.delivery.specs.inner.Delivery.{Passed};
 ghost use Rattle.merge_call.specs.inner.Merge.{withFlag, LoadsMerged, Merges};
@@ -53,19 +52,4 @@ pub fn merge(ticket: &[u8], work: &mut [u32], reply: &mut [u8]) -> Merged
     };
     delivery::end(work);
     m
-}
-
-// The answer words, and the number.
-pub fn tell_merged(m: Merged, answer: &mut [u32; 8]) -> u32
-    ensures { λ r. ⌜ r ≡ mergedFigures m .number ⌝ }
-    ensures { λ _. ⌜ now (answer .exit) ≡ wordsOf (mergedFigures m) ⌝ }
-{
-    match m {
-        Merged::Accepted(bytes, changed) => delivery::accept(
-            answer,
-            bytes,
-            basics::pick32(changed, 1, 0),
-        ),
-        Merged::Refused(x) => delivery::refuse(answer, x),
-    }
 }

@@ -13,7 +13,7 @@ pub extern "C" fn cabbagetier_check(ticket: &[u8], work: &mut [u32], answer: &mu
     ensures { λ _. ⌜ now (answer .exit) ≡ wordsOf (checkFigures (checkAnswer (length (now (work .entry))) (now (ticket .entry)))) ⌝ }
 {
     let k = check_call::check(ticket, work);
-    check_call::tell_checked(k, answer)
+    answers::tell_checked(k, answer)
 }
 
 #[no_mangle]
@@ -30,7 +30,7 @@ pub extern "C" fn cabbagetier_levels(
     ensures { λ _. ⌜ now (answer .exit) ≡ wordsOf (writtenFigures (levelAnswer (length (now (work .entry))) (now (ticket .entry)) (now (levels .entry)) (now (reply .entry)))) ⌝ }
 {
     let w = levels_call::levels(ticket, levels, work, reply);
-    delivery::tell_written(w, answer)
+    answers::tell_written(w, answer)
 }
 
 #[no_mangle]
@@ -46,7 +46,7 @@ pub extern "C" fn cabbagetier_compact(
     ensures { λ _. ⌜ now (answer .exit) ≡ wordsOf (writtenFigures (compactAnswer (length (now (work .entry))) (now (ticket .entry)) (now (reply .entry)))) ⌝ }
 {
     let w = compact_call::compact(ticket, work, reply);
-    delivery::tell_written(w, answer)
+    answers::tell_written(w, answer)
 }
 
 #[no_mangle]
@@ -62,7 +62,7 @@ pub extern "C" fn cabbagetier_merge(
     ensures { λ _. ⌜ now (answer .exit) ≡ wordsOf (mergedFigures (mergeAnswer (length (now (work .entry))) (now (ticket .entry)) (now (reply .entry)))) ⌝ }
 {
     let m = merge_call::merge(ticket, work, reply);
-    merge_call::tell_merged(m, answer)
+    answers::tell_merged(m, answer)
 }
 
 #[no_mangle]
@@ -78,5 +78,5 @@ pub extern "C" fn cabbagetier_rewrite(
     ensures { λ _. ⌜ now (answer .exit) ≡ wordsOf (writtenFigures (rewriteAnswer findNewCell (length (now (work .entry))) (now (ticket .entry)) (now (reply .entry)))) ⌝ }
 {
     let w = rewrite_call::rewrite(ticket, work, reply);
-    delivery::tell_written(w, answer)
+    answers::tell_written(w, answer)
 }

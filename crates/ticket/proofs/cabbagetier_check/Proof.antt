@@ -8,7 +8,7 @@ use Rattle.ticket.proofs.cabbagetier_check.Tie as tie
 use Rattle.ticket.proofs.cabbagetier_check.Reads as reads
 use Rattle.ticket.proofs.cabbagetier_check.Lts as lts
 use Rattle.check_call.proofs.check.Reads as check-reads
-use Rattle.check_call.proofs.tell_checked.Reads as tell-checked-reads
+use Rattle.answers.proofs.tell_checked.Reads as tell-checked-reads
 
 -- src/lib.rt
 check-requires : tie.Need-check-requires

@@ -8,7 +8,7 @@ use Rattle.ticket.proofs.cabbagetier_compact.Tie as tie
 use Rattle.ticket.proofs.cabbagetier_compact.Reads as reads
 use Rattle.ticket.proofs.cabbagetier_compact.Lts as lts
 use Rattle.compact_call.proofs.compact.Reads as compact-reads
-use Rattle.delivery.proofs.tell_written.Reads as tell-written-reads
+use Rattle.answers.proofs.tell_written.Reads as tell-written-reads
 
 -- src/lib.rt
 compact-requires : tie.Need-compact-requires

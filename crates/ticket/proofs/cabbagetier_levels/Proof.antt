@@ -7,7 +7,7 @@ use Rattle.ticket.proofs.cabbagetier_levels.Statement.{statement}
 use Rattle.ticket.proofs.cabbagetier_levels.Tie as tie
 use Rattle.ticket.proofs.cabbagetier_levels.Reads as reads
 use Rattle.ticket.proofs.cabbagetier_levels.Lts as lts
-use Rattle.delivery.proofs.tell_written.Reads as tell-written-reads
+use Rattle.answers.proofs.tell_written.Reads as tell-written-reads
 use Rattle.levels_call.proofs.levels.Reads as levels-reads
 
 -- src/lib.rt

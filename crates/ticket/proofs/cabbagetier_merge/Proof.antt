@@ -8,7 +8,7 @@ use Rattle.ticket.proofs.cabbagetier_merge.Tie as tie
 use Rattle.ticket.proofs.cabbagetier_merge.Reads as reads
 use Rattle.ticket.proofs.cabbagetier_merge.Lts as lts
 use Rattle.merge_call.proofs.merge.Reads as merge-reads
-use Rattle.merge_call.proofs.tell_merged.Reads as tell-merged-reads
+use Rattle.answers.proofs.tell_merged.Reads as tell-merged-reads
 
 -- src/lib.rt
 merge-requires : tie.Need-merge-requires

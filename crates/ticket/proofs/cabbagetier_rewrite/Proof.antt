@@ -7,7 +7,7 @@ use Rattle.ticket.proofs.cabbagetier_rewrite.Statement.{statement}
 use Rattle.ticket.proofs.cabbagetier_rewrite.Tie as tie
 use Rattle.ticket.proofs.cabbagetier_rewrite.Reads as reads
 use Rattle.ticket.proofs.cabbagetier_rewrite.Lts as lts
-use Rattle.delivery.proofs.tell_written.Reads as tell-written-reads
+use Rattle.answers.proofs.tell_written.Reads as tell-written-reads
 use Rattle.rewrite_call.proofs.rewrite.Reads as rewrite-reads
 
 -- src/lib.rt

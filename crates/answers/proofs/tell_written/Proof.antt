@@ -1,11 +1,11 @@
--- `delivery::tell_written` meets its contract. Assumes nothing.
+-- `answers::tell_written` meets its contract. Assumes nothing.
 use borrow.Author.Needs.{needs}
-use Rattle.delivery.proofs.tell_written.Statement.{statement}
-use Rattle.delivery.proofs.tell_written.Tie as tie
-use Rattle.delivery.proofs.tell_written.Reads as reads
-use Rattle.delivery.proofs.tell_written.Lts as lts
-use Rattle.delivery.proofs.accept.Reads as accept-reads
-use Rattle.delivery.proofs.refuse.Reads as refuse-reads
+use Rattle.answers.proofs.tell_written.Statement.{statement}
+use Rattle.answers.proofs.tell_written.Tie as tie
+use Rattle.answers.proofs.tell_written.Reads as reads
+use Rattle.answers.proofs.tell_written.Lts as lts
+use Rattle.answers.proofs.accept.Reads as accept-reads
+use Rattle.answers.proofs.refuse.Reads as refuse-reads
 
 -- src/lib.rt
 enum-known-w : tie.Need-enum-known-w

@@ -1,11 +1,11 @@
--- `merge_call::tell_merged` meets its contract. Assumes nothing.
+-- `answers::tell_merged` meets its contract. Assumes nothing.
 use borrow.Author.Needs.{needs}
-use Rattle.merge_call.proofs.tell_merged.Statement.{statement}
-use Rattle.merge_call.proofs.tell_merged.Tie as tie
-use Rattle.merge_call.proofs.tell_merged.Reads as reads
-use Rattle.merge_call.proofs.tell_merged.Lts as lts
-use Rattle.delivery.proofs.accept.Reads as accept-reads
-use Rattle.delivery.proofs.refuse.Reads as refuse-reads
+use Rattle.answers.proofs.tell_merged.Statement.{statement}
+use Rattle.answers.proofs.tell_merged.Tie as tie
+use Rattle.answers.proofs.tell_merged.Reads as reads
+use Rattle.answers.proofs.tell_merged.Lts as lts
+use Rattle.answers.proofs.accept.Reads as accept-reads
+use Rattle.answers.proofs.refuse.Reads as refuse-reads
 use Rattle.basics.proofs.pick32.Reads as pick32-reads
 
 -- src/lib.rt

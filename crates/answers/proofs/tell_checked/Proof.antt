@@ -1,11 +1,11 @@
--- `check_call::tell_checked` meets its contract. Assumes nothing.
+-- `answers::tell_checked` meets its contract. Assumes nothing.
 use borrow.Author.Needs.{needs}
-use Rattle.check_call.proofs.tell_checked.Statement.{statement}
-use Rattle.check_call.proofs.tell_checked.Tie as tie
-use Rattle.check_call.proofs.tell_checked.Reads as reads
-use Rattle.check_call.proofs.tell_checked.Lts as lts
-use Rattle.delivery.proofs.accept.Reads as accept-reads
-use Rattle.delivery.proofs.refuse.Reads as refuse-reads
+use Rattle.answers.proofs.tell_checked.Statement.{statement}
+use Rattle.answers.proofs.tell_checked.Tie as tie
+use Rattle.answers.proofs.tell_checked.Reads as reads
+use Rattle.answers.proofs.tell_checked.Lts as lts
+use Rattle.answers.proofs.accept.Reads as accept-reads
+use Rattle.answers.proofs.refuse.Reads as refuse-reads
 
 -- src/lib.rt
 enum-known-k : tie.Need-enum-known-k

@@ -1,9 +1,9 @@
--- `delivery::refuse` meets its contract. Assumes nothing.
+-- `answers::refuse` meets its contract. Assumes nothing.
 use borrow.Author.Needs.{needs}
-use Rattle.delivery.proofs.refuse.Statement.{statement}
-use Rattle.delivery.proofs.refuse.Tie as tie
-use Rattle.delivery.proofs.refuse.Reads as reads
-use Rattle.delivery.proofs.refuse.Lts as lts
+use Rattle.answers.proofs.refuse.Statement.{statement}
+use Rattle.answers.proofs.refuse.Tie as tie
+use Rattle.answers.proofs.refuse.Reads as reads
+use Rattle.answers.proofs.refuse.Lts as lts
 use Rattle.checking.proofs.figures_of.Reads as figures-of-reads
 
 -- src/lib.rt
