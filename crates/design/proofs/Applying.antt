@@ -2,14 +2,14 @@
 use mathlib.Core.Path.{_≡_, refl, sym, ap, ap₂, _∙_, subst}
 use mathlib.Core.Bool.{Bool, false, not, _||_}
 use mathlib.Core.List.{List, map}
-use Prim.Native.Nat.{ℕ, _+_, _*_, _<_, _≤_}
+use Prim.Native.Nat.{ℕ, zero, suc, _+_, _*_, _<_, _≤_}
 use native.Mathlib.Omega.{arith}
 use native.Mathlib.Numerals.{add-one}
 use native.Mathlib.Decide.{decLt}
 use lib.ListN.{length}
 use Rattle.value.specs.declared.Net.{Net}
 use Rattle.value.specs.declared.ControlNet.the-variants.{Pos, Neg}
-use Rattle.value.specs.Value.{eqNet}
+use Rattle.value.specs.Value.{netAt, eqNet, driver}
 use Rattle.cell.specs.declared.Record.{Record}
 use Rattle.cell.specs.declared.Cell.{Cell}
 use Rattle.cell.specs.declared.Cell.the-variants.{Input, Output, Buf, Not, And, Or, Xor, Mux, Aig}
@@ -21,7 +21,7 @@ use Rattle.netlist.specs.Shape.{visit, visitMut}
 use Rattle.netlist.specs.Netlist.{netlistOf}
 use Rattle.netlist.proofs.Frames.{within-none, within-then, within-wider, tabulate-same}
 use Rattle.netlist.proofs.Areas.{Sized, store-within, stored-same, stored-other}
-use Rattle.design.specs.Queue.{mapNetNew, applied, didChange, eqRecord, eqCell}
+use Rattle.design.specs.Queue.{followed, mapNetNew, applied, didChange, eqRecord, eqCell}
 use Rattle.netlist.specs.inner.Fields.{renamedFields, renamedRecord}
 use Rattle.design.specs.inner.Words.{netlistIn, replacedIn, designIn, appliedIn, replacedRecord, changesIn, Applies}
 use Rattle.basics.proofs.Tables.{any-more, any-table, map-table}
@@ -64,6 +64,16 @@ bit-kept bit c = ap (λ (r : Record). r .bit) (at-bit bit c)
 same-fields : (bit : ℕ) (c d : Cell) → eqRecord (cellRecord bit c) (cellRecord bit d) ≡ eqCell c d
 unfolding eqCell eqRecord
 same-fields bit c d = ap₂ eqRecord (at-bit bit c) (at-bit bit d)
+
+-- the constant zero is never replaced
+followed-zero : (k : ℕ) (rs : List Net) → followed k rs (netAt 0) ≡ netAt 0
+unfolding followed driver eqNet
+followed-zero zero rs = refl
+followed-zero (suc k) rs = refl
+
+pub replaced-zero : (rs : List Net) → mapNetNew rs (netAt 0) ≡ netAt 0
+unfolding mapNetNew
+replaced-zero rs = followed-zero (length rs) rs
 
 -- one slot
 module _ (n s : ℕ) (ws ws′ : List ℕ) (q : Record) (q-is : q ≡ wordRecord ws s) (old : Record) (old-is : old ≡ cellRecord (q .bit) (cellOf q))

@@ -6,7 +6,8 @@ use native.Mathlib.Omega.{arith}
 use lib.Dec.{eqb}
 use Rattle.value.specs.declared.Net.{Net}
 use Rattle.value.specs.declared.ControlNet.the-variants.{Pos, Neg}
-use Rattle.value.specs.Value.{netAt, fromNetInvert}
+use Rattle.value.specs.Value.{ZERO, netAt, fromNetInvert}
+use Rattle.kinds.specs.declared.Use.{Use}
 use Rattle.kinds.specs.declared.Sort.{Sort}
 use Rattle.kinds.specs.declared.Sort.the-variants as sort
 use Rattle.kinds.specs.Kinds.{sortOf, numberOf, kindTable, kindOf, useOf, isUsed, isOperandUse}
@@ -16,7 +17,7 @@ use Rattle.cell.specs.declared.Cell.{Cell}
 use Rattle.cell.specs.declared.Cell.the-variants.{Input, Output, Buf, Not, And, Or, Xor, Mux, Aig}
 use Rattle.cell.specs.Operands.{fieldOf, isOperand}
 use Rattle.cell.specs.Records.{recordOf, cellBy, cellOf, cellRecord}
-use Rattle.netlist.specs.Shape.{visitMut}
+use Rattle.netlist.specs.Shape.{visitMut, visitControl}
 use Rattle.netlist.specs.inner.Fields.{plainFields, operandAt, withNets, renamedFields, renamedRecord}
 
 -- the flags of an and-inverter, bit by bit
@@ -84,3 +85,30 @@ module _ (f : Net → Net) where
   pub renamed-plain : (r p : Record) → p ≡ cellRecord (r .bit) (cellOf r) → renamedFields f p ≡ renamedRecord f r
   unfolding renamedRecord
   renamed-plain r p e = ap (renamedFields f) e ∙ renamed-cell (r .bit) (cellOf r)
+
+  -- and in those of any record: its cell is renamed likewise
+  control-mapped : (n : Net) (b : Bool) → fromNetInvert (f n) b ≡ visitControl f (fromNetInvert n b)
+  control-mapped n true = refl
+  control-mapped n false = refl
+
+  renamedBy : Sort → Record → Record
+  renamedBy s r =
+      let at : Use → ℕ → ℕ = λ u x. cond (isOperandUse u) (f (netAt (cond (isOperandUse u) x 0)) .0) x in
+      recordOf (r .kind) (r .flags) (r .bit) (at (kindTable s .a) (r .a)) (at (kindTable s .b) (r .b)) (at (kindTable s .c) (r .c))
+
+  renamed-by : f ZERO ≡ ZERO → (s : Sort) (r : Record) → cellBy s (renamedBy s r) ≡ visitMut f (cellBy s r)
+  unfolding renamedBy visitMut
+  renamed-by z sort.Unknown r = ap Buf (sym z)
+  renamed-by z sort.Input r = refl
+  renamed-by z sort.Output r = refl
+  renamed-by z sort.Buf r = refl
+  renamed-by z sort.Not r = refl
+  renamed-by z sort.And r = refl
+  renamed-by z sort.Or r = refl
+  renamed-by z sort.Xor r = refl
+  renamed-by z sort.Mux r = refl
+  renamed-by z sort.Aig r = ap₂ Aig (control-mapped (netAt (r .a)) (eqb (r .flags % 2) 1)) (control-mapped (netAt (r .b)) (eqb (r .flags / 2 % 2) 1))
+
+  pub renamed-of : f ZERO ≡ ZERO → (r : Record) → cellOf (renamedFields f r) ≡ visitMut f (cellOf r)
+  unfolding cellOf renamedFields withNets operandAt isOperand fieldOf useOf kindOf renamedBy
+  renamed-of z r = renamed-by z (sortOf (r .kind)) r

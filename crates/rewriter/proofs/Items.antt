@@ -9,9 +9,8 @@ use lib.ListN.{length, getD, length-set}
 use Rattle.value.specs.declared.Net.{Net}
 use Rattle.cell.specs.declared.Cell.{Cell}
 use Rattle.cell.specs.declared.Record.{Record}
-use Rattle.cell.specs.Records.{cellOf, cellRecord}
+use Rattle.cell.specs.Records.{cellOf}
 use Rattle.basics.specs.Lists.{tabulate, has}
-use Rattle.cell.proofs.RoundTrips.{cell-back}
 use Rattle.netlist.specs.inner.Areas.{wordRecord, wordsIn, orderAt, Within, keysFrom}
 use Rattle.netlist.specs.Shape.{visitMut, hasEffects, isSplittable}
 use Rattle.netlist.specs.Netlist.{cellIn}
@@ -21,7 +20,8 @@ use Rattle.numberer.specs.Numberer.{Entry}
 use Rattle.netlist.specs.inner.Fields.{renamedFields}
 use Rattle.design.specs.inner.Words.{replacedIn}
 use Rattle.design.proofs.Words.{cell-at, replaced-length}
-use Rattle.netlist.proofs.Operands.{renamed-cell}
+use Rattle.netlist.proofs.Operands.{renamed-of}
+use Rattle.design.proofs.Applying.{replaced-zero}
 use Rattle.rewrite.specs.Rewriter.{Rewriter, Lookup, weight, finished}
 use Rattle.rewrite.specs.Rewrite as rewriting
 use Rattle.rewrite.specs.Rewrite.{Run, ran, stuck, bitDone, cellDone, addCell, processCell, runItem, andThen, runItems, slotsOf}
@@ -221,14 +221,12 @@ unfolding rewriterIn
 tickets-are x ws cs before st = sym (st .inv .wide) ∙ replaced-length (x .tickets) ws
 
 -- the mapped cell, by the records that the code goes through
-pub mapped-is : (x : Extent) (ws : List ℕ) (s : ℕ) → s < x .slots → (r own y : Record) (c : Cell) → r ≡ wordRecord ws s → own ≡ cellRecord (r .bit) (cellOf r)
-    → y ≡ renamedFields (mapNetNew (replacedIn (x .tickets) ws)) own → c ≡ cellOf y
+pub mapped-is : (x : Extent) (ws : List ℕ) (s : ℕ) → s < x .slots → (r y : Record) (c : Cell) → r ≡ wordRecord ws s → y ≡ renamedFields (mapNetNew (replacedIn (x .tickets) ws)) r → c ≡ cellOf y
     → c ≡ visitMut (mapNetNew (rewriterIn x ws .design .replaced)) (cellIn (rewriterIn x ws .design .cells) s)
 unfolding rewriterIn
-mapped-is x ws s h r own y c e₁ e₂ e₃ e₄ =
+mapped-is x ws s h r y c e₁ e₂ e₃ =
     let f : Net → Net = mapNetNew (replacedIn (x .tickets) ws) in
-    e₄ ∙ ap cellOf (e₃ ∙ ap (renamedFields f) e₂ ∙ renamed-cell f (r .bit) (cellOf r))
-    ∙ cell-back (r .bit) (visitMut f (cellOf r)) ∙ ap (λ (z : Record). visitMut f (cellOf z)) e₁
+    e₃ ∙ ap cellOf e₂ ∙ renamed-of f (replaced-zero (replacedIn (x .tickets) ws)) r ∙ ap (λ (z : Record). visitMut f (cellOf z)) e₁
     ∙ ap (visitMut f) (sym (cell-at (x .slots) ws s h))
 
 -- one item

@@ -42,7 +42,7 @@ fn mapped_cell(work: &[u32], x: Extent, s: Slot) -> Cell
     requires { ⌜ s .0 < x .slots ⌝ }
     ensures { λ r. ⌜ r ≡ visitMut (mapNetNew (rewriterIn x (now (work .entry)) .design .replaced)) (cellIn (rewriterIn x (now (work .entry)) .design .cells) (s .0)) ⌝ }
 {
-    let own = netlist::fields::plain(netlist::record_in(work, s));
+    let own = netlist::record_in(work, s);
     cell::cell_of(design::queue::replaced_record(work, x.tickets, own))
 }
 

@@ -7,16 +7,11 @@ use Rattle.rewriter.proofs.run.mapped_cell.Reads as reads
 use Rattle.rewriter.proofs.run.mapped_cell.Lts as lts
 use Rattle.cell.proofs.cell_of.Reads as cell-of-reads
 use Rattle.design.proofs.queue.replaced_record.Reads as replaced-record-reads
-use Rattle.netlist.proofs.fields.plain.Reads as plain-reads
 use Rattle.netlist.proofs.record_in.Reads as record-in-reads
 
 -- src/run.rt
 record-in-requires : tie.Need-record-in-requires
 record-in-requires c κs = search needs
-
--- src/run.rt
-plain-requires : tie.Need-plain-requires
-plain-requires c κs = search needs
 
 -- src/run.rt
 replaced-record-requires : tie.Need-replaced-record-requires
@@ -32,5 +27,4 @@ returns c = search mapped-is
 
 pub mapped-cell-spec : {M : Type 1} → statement M
 mapped-cell-spec =
-    tie.close
-    (tie.spec record-in-requires plain-requires replaced-record-requires cell-of-requires returns)
+    tie.close (tie.spec record-in-requires replaced-record-requires cell-of-requires returns)
