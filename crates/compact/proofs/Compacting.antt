@@ -25,7 +25,7 @@ use Rattle.basics.proofs.Tables.{tabulate-at, map-append, map-at, tabulate-map}
 use Rattle.netlist.specs.inner.Areas.{wordRecord, recordsIn, marksIn, visitedAt, orderAt}
 use Rattle.netlist.specs.Shape.{visitMut}
 use Rattle.netlist.specs.Netlist.{startOf, cellIn, encode, ticketOf}
-use Rattle.order.specs.inner.Descent.{bitsIn}
+use Rattle.cell_order.specs.inner.Descent.{bitsIn}
 use Rattle.basics.proofs.Those.{those-append, map-slots-same}
 use Rattle.order.proofs.Words.{marks-length}
 use Rattle.compact.specs.Compact.{keep, isKept, keptSlots, countKept, netMap, compact}

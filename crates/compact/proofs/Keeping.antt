@@ -16,7 +16,8 @@ use Rattle.netlist.specs.inner.Areas.{recordsIn, Within, visitedAt, replacedAt}
 use Rattle.netlist.specs.Netlist.{Netlist, netlistOf, cellIn, iterCells, cellDeps}
 use Rattle.netlist.proofs.Frames.{record-kept, records-kept}
 use Rattle.order.specs.Walk.{Walk, walkFrom, fresh}
-use Rattle.order.specs.inner.Code.{walkOf, cellsBy, Ready, Walks, Clears}
+use Rattle.order.specs.inner.Code.{walkOf, Ready, Walks, Clears}
+use Rattle.cell_order.specs.inner.Code.{cellsBy}
 use Rattle.order.proofs.Walking.{walks-none, walks-ready, walks-then, cleared-ready, cleared-records, cleared-then, cleared-walked}
 use Rattle.basics.proofs.Those.{those-append, those-both, slots-same}
 use Rattle.compact.specs.Compact.{keep}

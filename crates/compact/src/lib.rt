@@ -10,7 +10,8 @@ ghost use mathlib.Core.Bool.{cond};
 ghost use Prim.Native.Nat.{_+_, _*_, _≤_, _<_};
 ghost use lib.ListN.{length};
 ghost use lib.Seq.{sets};
-ghost use Rattle.order.specs.inner.Code.{Ready, Walks, cellsBy};
+ghost use Rattle.order.specs.inner.Code.{Ready, Walks};
+ghost use Rattle.cell_order.specs.inner.Code.{cellsBy};
 ghost use Rattle.netlist.specs.inner.Areas.{marksIn, visitedAt};
 ghost use Rattle.netlist.specs.Netlist.{encode, ticketOf};
 ghost use Rattle.netlist.specs.inner.Fields.{renamedFields};
@@ -32,7 +33,7 @@ fn keep_from(work: &mut [u32], n: u32, s: Slot, count: u32) -> u32
     ensures { λ r. ⌜ Walks cellsBy (rootAt (now (work .entry)) (s .0)) n count (now (work .entry)) (now (work .exit)) r ⌝ }
 {
     if is_root(work, s) {
-        return order::walk_cell(work, n, s, count);
+        return cell_order::walk_cell(work, n, s, count);
     }
     count
 }
@@ -57,7 +58,7 @@ fn is_kept(work: &[u32], n: u32, s: Slot) -> bool
     requires { ⌜ s .0 < n ⌝ }
     ensures { λ r. ⌜ r ≡ keptAt n (now (work .entry)) (s .0) ⌝ }
 {
-    let start = order::start_of(work, n, s);
+    let start = cell_order::start_of(work, n, s);
     basics::word(work, area::VISITED + (start as usize)) != 0
 }
 

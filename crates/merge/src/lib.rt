@@ -164,7 +164,7 @@ fn merge_all(work: &mut [u32], n: u32)
     requires { ⌜ Sequenced (netlistIn n (now work) .bits) ⌝ }
     ensures { λ _. ⌜ MergesAll n (now (work .entry)) (now (work .exit)) ⌝ }
 {
-    let count = order::iter_cells_topo(work, n);
+    let count = cell_order::iter_cells_topo(work, n);
     design::queue::unchanged(work, n);
     merge_cells(work, n, count);
 }

@@ -5,7 +5,7 @@ use Rattle.compact.proofs.is_kept.Tie as tie
 use Rattle.compact.proofs.is_kept.Reads as reads
 use Rattle.compact.proofs.is_kept.Lts as lts
 use Rattle.basics.proofs.word.Reads as word-reads
-use Rattle.order.proofs.start_of.Reads as start-of-reads
+use Rattle.cell_order.proofs.start_of.Reads as start-of-reads
 
 -- src/lib.rt
 start-of-requires : tie.Need-start-of-requires

@@ -5,7 +5,7 @@ use Rattle.compact.proofs.keep_from.Tie as tie
 use Rattle.compact.proofs.keep_from.Reads as reads
 use Rattle.compact.proofs.keep_from.Lts as lts
 use Rattle.compact.proofs.is_root.Reads as is-root-reads
-use Rattle.order.proofs.walk_cell.Reads as walk-cell-reads
+use Rattle.cell_order.proofs.walk_cell.Reads as walk-cell-reads
 
 -- src/lib.rt
 is-root-requires : tie.Need-is-root-requires

@@ -7,7 +7,7 @@ use Rattle.merge.proofs.merge_all.Reads as reads
 use Rattle.merge.proofs.merge_all.Lts as lts
 use Rattle.design.proofs.queue.unchanged.Reads as unchanged-reads
 use Rattle.merge.proofs.merge_cells.Reads as merge-cells-reads
-use Rattle.order.proofs.iter_cells_topo.Reads as iter-cells-topo-reads
+use Rattle.cell_order.proofs.iter_cells_topo.Reads as iter-cells-topo-reads
 
 -- src/lib.rt
 iter-cells-topo-requires : tie.Need-iter-cells-topo-requires

@@ -1,4 +1,4 @@
--- What the functions of the orders ask and tell of the words of the work slice. Assumes nothing: these are definitions.
+-- What the walks and the bit order ask and tell of the words of the work slice. Assumes nothing: these are definitions.
 use mathlib.Core.Path.{_≡_}
 use mathlib.Core.Bool.{Bool, true, false}
 use mathlib.Core.List.{List, map, reverse}
@@ -6,10 +6,9 @@ use Prim.Native.Nat.{ℕ, _+_, _≤_}
 use lib.ListN.{length, getD, replicate}
 use Rattle.cell.specs.declared.Record.{Record}
 use Rattle.cell.specs.Records.{cellOf}
-use Rattle.netlist.specs.Netlist.{netlistOf, cellDeps}
 use Rattle.netlist.specs.inner.Areas.{recordsIn, wordsIn, marksIn, Within, visitedAt, orderAt, replacedAt}
 use Rattle.order.specs.Walk.{Walk, each, walk, countFalse}
-use Rattle.order.specs.Orders.{bitDeps, topoSort, iterCellsTopo}
+use Rattle.order.specs.Orders.{bitDeps, topoSort}
 
 -- a walk over n items in the words: marks, and the items so far in their order
 unfoldable pub walkOf : ℕ → ℕ → List ℕ → Walk
@@ -22,12 +21,9 @@ visitedIn n ws s = getD (marksIn visitedAt n ws) s true
 unfoldable pub unvisitedIn : ℕ → List ℕ → ℕ
 unvisitedIn n ws = countFalse (marksIn visitedAt n ws)
 
--- what an item depends on, in the order of the walk: bits and cells
+-- what a bit depends on, in the order of the walk
 unfoldable pub bitsBy : List Record → ℕ → List ℕ
 bitsBy rs s = reverse (bitDeps (map cellOf rs) s)
-
-unfoldable pub cellsBy : List Record → ℕ → List ℕ
-cellsBy rs s = cellDeps (netlistOf rs) s
 
 -- what the walks ask
 pub record Ready (n count : ℕ) (ws : List ℕ) : Type 0 where
@@ -49,10 +45,4 @@ pub record Clears (n : ℕ) (ws ws′ : List ℕ) : Type 0 where
 pub record Sorts (n : ℕ) (ws ws′ : List ℕ) (r : ℕ) : Type 0 where
   pub order : wordsIn orderAt r ws′ ≡ topoSort (map cellOf (recordsIn n ws))
   pub all : r ≡ n
-  pub frame : Within visitedAt replacedAt ws ws′
-
--- the cells in order
-pub record SortsCells (n : ℕ) (ws ws′ : List ℕ) (r : ℕ) : Type 0 where
-  pub order : wordsIn orderAt r ws′ ≡ iterCellsTopo (netlistOf (recordsIn n ws))
-  pub few : r ≤ 1024
   pub frame : Within visitedAt replacedAt ws ws′

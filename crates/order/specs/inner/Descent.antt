@@ -1,22 +1,18 @@
--- How the walks go down from an item. Assumes nothing: these are definitions.
-use mathlib.Core.Path.{_≡_}
-use mathlib.Core.Bool.{true, false, not, _&&_}
+-- How the walk goes down from a bit. Assumes nothing: these are definitions.
+use mathlib.Core.Bool.{not}
 use mathlib.Core.List.{List, _++_, map}
-use Prim.Native.Nat.{ℕ, suc, _+_, _<_, _≤_}
-use lib.Dec.{eqb, leb}
-use lib.ListN.{length, drop}
+use Prim.Native.Nat.{ℕ}
 use Rattle.value.specs.declared.Net.{Net}
 use Rattle.value.specs.Value.{ZERO, net, driver}
 use Rattle.cell.specs.declared.Record.{Record}
 use Rattle.cell.specs.declared.Cell.{Cell}
 use Rattle.cell.specs.declared.Cell.the-variants.{Input, Output, Buf, Not, And, Or, Xor, Mux, Aig}
 use Rattle.cell.specs.Records.{cellOf}
-use Rattle.basics.specs.Lists.{tabulate, slots, those, anyOf, joined}
-use Rattle.netlist.specs.Shape.{visit, isSource}
+use Rattle.basics.specs.Lists.{those}
+use Rattle.netlist.specs.Shape.{isSource}
 use Rattle.netlist.specs.inner.Fields.{operandAt}
-use Rattle.netlist.specs.Netlist.{netlistOf, cellIn, drivenBy, sources, startOf, run}
+use Rattle.netlist.specs.Netlist.{cellIn, drivenBy}
 use Rattle.order.specs.declared.Operands.{Operands}
-use Rattle.order.specs.inner.Code.{visitedIn}
 
 -- the operands of a cell by field, and a constant where there is none
 unfoldable pub operandsOf : Cell → Operands
@@ -41,34 +37,3 @@ bitsOf rs x = those (λ s. not (isSource (cellIn (map cellOf rs) s))) (drivenBy 
 -- the bits that operands lead down to, the last first
 unfoldable pub operandBits : List Record → Operands → List ℕ
 operandBits rs o = bitsOf rs (o .2) ++ (bitsOf rs (o .1) ++ bitsOf rs (o .0))
-
--- the bit numbers of the records
-unfoldable pub bitsIn : List Record → List ℕ
-bitsIn rs = netlistOf rs .bits
-
--- the starts of the cells that a net, a bit, and the first m bits of a cell lead to
-unfoldable pub startsOf : List Record → Net → List ℕ
-startsOf rs x = map (startOf (bitsIn rs)) (drivenBy (driver x))
-
-unfoldable pub bitReads : List Record → ℕ → List ℕ
-bitReads rs i = map (startOf (bitsIn rs)) (sources (visit (cellIn (map cellOf rs) i)))
-
-unfoldable pub readUpTo : List Record → ℕ → ℕ → List ℕ
-readUpTo rs s m = map (startOf (bitsIn rs)) (joined (map (λ i. sources (visit (cellIn (map cellOf rs) i))) (tabulate (λ i. s + i) m)))
-
-unfoldable pub readBy : List Record → ℕ → List ℕ
-readBy rs s = readUpTo rs s (suc (run (drop (s + 1) (bitsIn rs))))
-
--- the cells from a slot on that a cell reads
-unfoldable pub depsFrom : List Record → ℕ → ℕ → List ℕ
-depsFrom rs s from = those (λ x. leb from x && anyOf (eqb x) (readBy rs s)) (slots (length (map cellOf rs)))
-
--- the lowest item of a list from a number on that was not visited; n if there is none
-pub record Lowest (n : ℕ) (ws : List ℕ) (from : ℕ) (xs : List ℕ) (r : ℕ) : Type 0 where
-  pub upto : r ≤ n
-  pub found : r < n → (from ≤ r) × (anyOf (eqb r) xs ≡ true) × (visitedIn n ws r ≡ false)
-  pub lowest : (y : ℕ) → from ≤ y → y < r → anyOf (eqb y) xs ≡ true → visitedIn n ws y ≡ true
-
--- the same, found from the lowest item of some others
-pub record Lowers (n : ℕ) (ws : List ℕ) (from : ℕ) (xs : List ℕ) (best r : ℕ) : Type 0 where
-  pub lowers : (ys : List ℕ) → Lowest n ws from ys best → Lowest n ws from (ys ++ xs) r

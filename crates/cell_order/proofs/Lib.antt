@@ -1,0 +1,3 @@
+pub mod Lowest
+pub mod Cells
+pub mod Starts
