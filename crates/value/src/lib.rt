@@ -2,7 +2,7 @@
 use logic::Trit;
 ghost use mathlib.Core.Path.{_≡_};
 ghost use Prim.Native.Nat.{_≤_};
-ghost use Rattle.value.specs.Value.{netOf, driver, isConst, eqNet, leNet, fromNetInvert, net, isPositive, isNegative, isAlways, canonicalize, notControl, eqControl, leControl};
+ghost use Rattle.value.specs.Value.{netOf, driver, eqNet, leNet, fromNetInvert, net, isPositive, isNegative, isAlways, canonicalize, notControl, eqControl, leControl};
 
 // A net's index: 0 and 1 are the constants zero and one, 4294967295 is undefined, any other is a slot's number plus two.
 pub struct Net(pub u32);
@@ -64,15 +64,6 @@ impl Net {
         }
         Driver::Const(Trit::One)
     }
-
-    pub fn is_const(self) -> bool
-        ensures { λ r. ⌜ r ≡ isConst self ⌝ }
-    {
-        match self.as_cell_index() {
-            Driver::Const(_) => true,
-            Driver::Cell(_) => false,
-        }
-    }
 }
 
 pub fn control_eq(a: ControlNet, b: ControlNet) -> bool
@@ -107,12 +98,6 @@ pub fn control_le(a: ControlNet, b: ControlNet) -> bool
 }
 
 impl ControlNet {
-    pub const UNDEF: ControlNet = ControlNet::Pos(Net(4294967295));
-
-    pub const ZERO: ControlNet = ControlNet::Pos(Net(0));
-
-    pub const ONE: ControlNet = ControlNet::Pos(Net(1));
-
     pub fn from_net_invert(n: Net, invert: bool) -> ControlNet
         ensures { λ r. ⌜ r ≡ fromNetInvert n invert ⌝ }
     {
