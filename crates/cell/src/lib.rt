@@ -233,6 +233,10 @@ pub fn edge_at(r: Record, f: u32) -> Edge
 pub fn cell_of(r: Record) -> Cell
     ensures { λ x. ⌜ x ≡ cellOf r ⌝ }
 {
+    // This first, so that the kind itself is what the match below jumps by.
+    if !kinds::is_known(r.kind) {
+        return Cell::Buf(Net::ZERO);
+    }
     match kinds::sort_of(r.kind) {
         Sort::Unknown => Cell::Buf(Net::ZERO),
         Sort::Input => Cell::Input(r.a),

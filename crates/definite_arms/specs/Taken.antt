@@ -27,7 +27,7 @@ use Rattle.definite_arms.specs.Arms as arm
 use Rattle.definite_arms.specs.Arms.{Name, makesDefinite, Case, arms}
 use Rattle.definite_arms.specs.Definite.{look}
 
--- names of the ways through the rules; aig_laws/proofs/Arms.antt has their tests, as equations
+-- names of the ways through the rules; aig_laws/specs/Arms.antt has their tests, as equations
 unfoldable pub notName : {src : Source} {n : Net} {o : Outcome} → NotArm src n o → Name
 notName (tested.not-none e) = arm.not-none
 notName (tested.not-zero t e) = arm.not-zero

@@ -1,6 +1,6 @@
 -- Laws of the kind table. Assumes nothing.
 use mathlib.Core.Path.{_≡_, refl, sym, subst}
-use mathlib.Core.Bool.{Bool, true, false, _&&_, false≢true}
+use mathlib.Core.Bool.{Bool, true, false, _&&_, false≢true, true≢false}
 use mathlib.Core.List.{List, [], _∷_}
 use Prim.Native.Nat.{ℕ, zero, suc, _+_, _<_, _≤_}
 use native.Mathlib.Omega.{arith}
@@ -105,3 +105,20 @@ number-back (suc (suc (suc (suc (suc (suc (suc zero))))))) h = refl
 number-back (suc (suc (suc (suc (suc (suc (suc (suc zero)))))))) h = refl
 number-back (suc (suc (suc (suc (suc (suc (suc (suc (suc zero))))))))) h = refl
 number-back (suc (suc (suc (suc (suc (suc (suc (suc (suc (suc k)))))))))) h = absurd (false≢true h)
+
+-- what the table does not know
+unknown-row : (s : Sort) → kindTable s .known ≡ false → Unknown ≡ s
+unknown-row Unknown h = refl
+unknown-row Input h = absurd (true≢false h)
+unknown-row Output h = absurd (true≢false h)
+unknown-row Buf h = absurd (true≢false h)
+unknown-row Not h = absurd (true≢false h)
+unknown-row And h = absurd (true≢false h)
+unknown-row Or h = absurd (true≢false h)
+unknown-row Xor h = absurd (true≢false h)
+unknown-row Mux h = absurd (true≢false h)
+unknown-row Aig h = absurd (true≢false h)
+
+pub unknown-sort : (k : ℕ) → kindOf k .known ≡ false → Unknown ≡ sortOf k
+unfolding kindOf
+unknown-sort k h = unknown-row (sortOf k) h

@@ -1,4 +1,4 @@
-// Where the areas of the work slice begin (`specs/Areas.antt`; docs/MAP.md draws them). The records stand from word 0 on, four words a slot.
+// Where the areas of the work slice begin (`specs/inner/Areas.antt`; docs/MAP.md draws them). The records stand from word 0 on, four words a slot.
 
 // Words, one a slot.
 pub const VISITED: usize = 4096;

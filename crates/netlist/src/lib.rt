@@ -1,4 +1,5 @@
-// Which cells have effects; and a netlist in the words of the work slice: its records, read and written slot by slot.
+// Which cells have effects, which are sources or outputs; and a netlist in the words of the work slice: its records, read and written
+// slot by slot.
 use cell::Cell;
 use cell::Record;
 use value::Slot;

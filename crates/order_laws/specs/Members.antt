@@ -1,4 +1,4 @@
--- What holds of each member of a list, and of the slot that drives a net. Assumes nothing: these are definitions.
+-- What holds of the slot that drives a net. Assumes nothing: these are definitions.
 use mathlib.Core.Path.{_≡_}
 use mathlib.Core.List.{List}
 use mathlib.Core.Bool.{false}

@@ -4,7 +4,7 @@ use Rattle.kinds.proofs.has_flags.Tie as tie
 use Rattle.kinds.proofs.has_flags.Reads as reads
 use Rattle.kinds.proofs.has_flags.Lts as lts
 
--- src/lib.rt:177:1
+-- src/lib.rt
 returns : tie.Need-returns
 returns c = has-flags-is _
 

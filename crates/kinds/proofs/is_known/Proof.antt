@@ -7,11 +7,11 @@ use Rattle.kinds.proofs.is_known.Reads as reads
 use Rattle.kinds.proofs.is_known.Lts as lts
 use Rattle.basics.proofs.both.Reads as both-reads
 
--- src/lib.rt:145:5
+-- src/lib.rt
 both-requires : tie.Need-both-requires
 both-requires c κs = search needs
 
--- src/lib.rt:142:1
+-- src/lib.rt
 returns : tie.Need-returns
 returns c = c .both .ensures ∙ known-is _
 

@@ -8,15 +8,15 @@ use Rattle.kinds.proofs.kind_of.Lts as lts
 use Rattle.kinds.proofs.kind_table.Reads as kind-table-reads
 use Rattle.kinds.proofs.sort_of.Reads as sort-of-reads
 
--- src/lib.rt:116:16
+-- src/lib.rt
 sort-of-requires : tie.Need-sort-of-requires
 sort-of-requires c κs = search needs
 
--- src/lib.rt:116:5
+-- src/lib.rt
 kind-table-requires : tie.Need-kind-table-requires
 kind-table-requires c κs = search needs
 
--- src/lib.rt:113:1
+-- src/lib.rt
 returns : tie.Need-returns
 unfolding kindOf
 returns c = c .kind-table .ensures ∙ ap kindTable (c .before .sort-of .ensures)

@@ -5,7 +5,7 @@ use Rattle.kinds.proofs.net_in_c.Tie as tie
 use Rattle.kinds.proofs.net_in_c.Reads as reads
 use Rattle.kinds.proofs.net_in_c.Lts as lts
 
--- src/lib.rt:161:1
+-- src/lib.rt
 returns : tie.Need-returns
 returns c = net-in-c-is _
 

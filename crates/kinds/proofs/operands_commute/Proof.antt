@@ -8,15 +8,15 @@ use Rattle.kinds.proofs.operands_commute.Lts as lts
 use Rattle.basics.proofs.both.Reads as both-reads
 use Rattle.basics.proofs.either.Reads as either-reads
 
--- src/lib.rt:178:12
+-- src/lib.rt
 both-requires : tie.Need-both-requires
 both-requires c κs = search needs
 
--- src/lib.rt:178:5
+-- src/lib.rt
 either-requires : tie.Need-either-requires
 either-requires c κs = search needs
 
--- src/lib.rt:175:1
+-- src/lib.rt
 returns : tie.Need-returns
 returns c = c .either .ensures ∙ rw (c .before .both .ensures) (commutes-is _)
 

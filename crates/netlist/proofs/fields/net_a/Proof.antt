@@ -11,15 +11,15 @@ use Rattle.netlist.proofs.fields.net_a.Lts as lts
 use Rattle.kinds.proofs.net_in_a.Reads as net-in-a-reads
 use Rattle.basics.proofs.pick32.Reads as pick32-reads
 
--- src/fields.rt:27:23
+-- src/fields.rt
 net-in-a-requires : tie.Need-net-in-a-requires
 net-in-a-requires c κs = search needs
 
--- src/fields.rt:27:9
+-- src/fields.rt
 pick32-requires : tie.Need-pick32-requires
 pick32-requires c κs = search needs
 
--- src/fields.rt:24:1
+-- src/fields.rt
 returns : tie.Need-returns
 unfolding operandAt isOperand useOf fieldOf
 returns c = ap netAt (c .pick32 .ensures ∙ rw (c .before .net-in-a .ensures))

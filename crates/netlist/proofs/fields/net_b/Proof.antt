@@ -11,15 +11,15 @@ use Rattle.netlist.proofs.fields.net_b.Lts as lts
 use Rattle.kinds.proofs.net_in_b.Reads as net-in-b-reads
 use Rattle.basics.proofs.pick32.Reads as pick32-reads
 
--- src/fields.rt:33:23
+-- src/fields.rt
 net-in-b-requires : tie.Need-net-in-b-requires
 net-in-b-requires c κs = search needs
 
--- src/fields.rt:33:9
+-- src/fields.rt
 pick32-requires : tie.Need-pick32-requires
 pick32-requires c κs = search needs
 
--- src/fields.rt:30:1
+-- src/fields.rt
 returns : tie.Need-returns
 unfolding operandAt isOperand useOf fieldOf
 returns c = ap netAt (c .pick32 .ensures ∙ rw (c .before .net-in-b .ensures))

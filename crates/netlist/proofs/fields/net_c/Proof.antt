@@ -11,15 +11,15 @@ use Rattle.netlist.proofs.fields.net_c.Lts as lts
 use Rattle.kinds.proofs.net_in_c.Reads as net-in-c-reads
 use Rattle.basics.proofs.pick32.Reads as pick32-reads
 
--- src/fields.rt:39:23
+-- src/fields.rt
 net-in-c-requires : tie.Need-net-in-c-requires
 net-in-c-requires c κs = search needs
 
--- src/fields.rt:39:9
+-- src/fields.rt
 pick32-requires : tie.Need-pick32-requires
 pick32-requires c κs = search needs
 
--- src/fields.rt:36:1
+-- src/fields.rt
 returns : tie.Need-returns
 unfolding operandAt isOperand useOf fieldOf
 returns c = ap netAt (c .pick32 .ensures ∙ rw (c .before .net-in-c .ensures))

@@ -12,51 +12,51 @@ use Rattle.kinds.proofs.uses_b.Reads as uses-b-reads
 use Rattle.basics.proofs.pick32.Reads as pick32-reads
 use Rattle.basics.proofs.pick8.Reads as pick8-reads
 
--- src/fields.rt:12:9
+-- src/fields.rt
 is-known-requires : tie.Need-is-known-requires
 is-known-requires c κs = search needs
 
--- src/fields.rt:14:15
+-- src/fields.rt
 pick8-requires : tie.Need-pick8-requires
 pick8-requires c κs = search needs
 
--- src/fields.rt:15:29
+-- src/fields.rt
 has-flags-requires : tie.Need-has-flags-requires
 has-flags-requires c κs = search needs
 
--- src/fields.rt:15:69
+-- src/fields.rt
 mul-pick8 : tie.Need-mul-pick8
 mul-pick8 c = search needs
 
--- src/fields.rt:15:55
+-- src/fields.rt
 add-pick8 : tie.Need-add-pick8
 add-pick8 c = search needs
 
--- src/fields.rt:15:16
+-- src/fields.rt
 pick8-requires-2 : tie.Need-pick8-requires-2
 pick8-requires-2 c κs = search needs
 
--- src/fields.rt:17:12
+-- src/fields.rt
 pick32-requires : tie.Need-pick32-requires
 pick32-requires c κs = search needs
 
--- src/fields.rt:18:26
+-- src/fields.rt
 uses-b-requires : tie.Need-uses-b-requires
 uses-b-requires c κs = search needs
 
--- src/fields.rt:18:12
+-- src/fields.rt
 pick32-requires-2 : tie.Need-pick32-requires-2
 pick32-requires-2 c κs = search needs
 
--- src/fields.rt:19:26
+-- src/fields.rt
 net-in-c-requires : tie.Need-net-in-c-requires
 net-in-c-requires c κs = search needs
 
--- src/fields.rt:19:12
+-- src/fields.rt
 pick32-requires-3 : tie.Need-pick32-requires-3
 pick32-requires-3 c κs = search needs
 
--- src/fields.rt:9:1
+-- src/fields.rt
 returns : tie.Need-returns
 unfolding plainFields
 returns c = rw (← plain-is) cc

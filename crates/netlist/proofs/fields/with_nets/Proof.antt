@@ -11,31 +11,31 @@ use Rattle.kinds.proofs.net_in_b.Reads as net-in-b-reads
 use Rattle.kinds.proofs.net_in_c.Reads as net-in-c-reads
 use Rattle.basics.proofs.pick32.Reads as pick32-reads
 
--- src/fields.rt:50:26
+-- src/fields.rt
 net-in-a-requires : tie.Need-net-in-a-requires
 net-in-a-requires c κs = search needs
 
--- src/fields.rt:50:12
+-- src/fields.rt
 pick32-requires : tie.Need-pick32-requires
 pick32-requires c κs = search needs
 
--- src/fields.rt:51:26
+-- src/fields.rt
 net-in-b-requires : tie.Need-net-in-b-requires
 net-in-b-requires c κs = search needs
 
--- src/fields.rt:51:12
+-- src/fields.rt
 pick32-requires-2 : tie.Need-pick32-requires-2
 pick32-requires-2 c κs = search needs
 
--- src/fields.rt:52:26
+-- src/fields.rt
 net-in-c-requires : tie.Need-net-in-c-requires
 net-in-c-requires c κs = search needs
 
--- src/fields.rt:52:12
+-- src/fields.rt
 pick32-requires-3 : tie.Need-pick32-requires-3
 pick32-requires-3 c κs = search needs
 
--- src/fields.rt:43:1
+-- src/fields.rt
 returns : tie.Need-returns
 unfolding withNets isOperand useOf fieldOf
 returns c = cc
