@@ -1,4 +1,5 @@
-/* Checks the ticket on standard input: `accepted RECORDS GATES`, or `refused NUMBER PLACE`. */
+/* Checks the ticket on standard input: `accepted RECORDS GATES`, or `refused NUMBER PLACE`. GATES leaves out bufs and
+ * nots. */
 #include <stdio.h>
 #include "cabbagetier.h"
 

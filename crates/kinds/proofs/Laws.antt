@@ -1,7 +1,7 @@
 -- Laws of the kind table. Assumes nothing.
 use mathlib.Core.Path.{_≡_, refl, sym, subst}
 use mathlib.Core.Bool.{Bool, true, false, _&&_, false≢true, true≢false}
-use mathlib.Core.List.{List, [], _∷_}
+use mathlib.Core.List.{List, [], _∷_, map}
 use Prim.Native.Nat.{ℕ, zero, suc, _+_, _<_, _≤_}
 use native.Mathlib.Omega.{arith}
 use native.Mathlib.Decide.{decLt}
@@ -73,6 +73,12 @@ gates-of Or = omega arith
 gates-of Xor = omega arith
 gates-of Mux = omega arith
 gates-of Aig = omega arith
+
+-- kind by kind from 0 to 10: by request 2026-03 and, or, xor, mux and and-inverter add 1, buf and not nothing; nor do inputs, outputs and kinds
+-- that are not known
+pub gates-by-kind : map (λ k. kindOf k .gates) (0 ∷ 1 ∷ 2 ∷ 3 ∷ 4 ∷ 5 ∷ 6 ∷ 7 ∷ 8 ∷ 9 ∷ 10 ∷ []) ≡ 0 ∷ 0 ∷ 0 ∷ 0 ∷ 0 ∷ 1 ∷ 1 ∷ 1 ∷ 1 ∷ 1 ∷ 0 ∷ []
+unfolding sortOf kindOf
+gates-by-kind = refl
 
 pub gates-one : (k : ℕ) → kindOf k .gates ≤ 1
 unfolding kindOf

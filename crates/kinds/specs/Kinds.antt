@@ -1,5 +1,5 @@
--- The kind table (paper, "The ticket"): the one place that knows a kind by its number, and what it says of a record. Assumes nothing: these
--- are definitions.
+-- The kind table (paper, "The ticket", "When a ticket is turned away"): the one place that knows a kind by its number, and what it says of a
+-- record. Assumes nothing: these are definitions.
 use mathlib.Core.Bool.{Bool, true, false, cond}
 use mathlib.Core.List.{List, [], _∷_}
 use Prim.Native.Nat.{ℕ}
@@ -32,7 +32,7 @@ numberOf Aig = 9
 
 -- a row of the table: what fields a, b and c hold, the largest flags byte (the flags in use are the lowest bits, so another is set
 -- exactly if the byte is larger), whether a cell has one bit only, whether field a is the same in all bits of a cell, and what a record
--- adds to the gate count
+-- adds to the gate count (request 2026-03: and, or, xor, mux and and-inverter 1, all others 0)
 abbrev pub rowOf : Use → Use → Use → ℕ → Bool → Bool → ℕ → Kind
 rowOf a b c flags one-bit common-a gates =
     record { known = true; a = a; b = b; c = c; flags = flags; «one_bit» = one-bit; «common_a» = common-a; gates = gates }
@@ -53,8 +53,8 @@ abbrev pub kindTable : Sort → Kind
 kindTable Unknown = unknownRow
 kindTable Input = rowOf Label Unused Unused 0 false true 0
 kindTable Output = rowOf Operand Label Unused 0 true false 0
-kindTable Buf = rowOf Operand Unused Unused 0 false false 1
-kindTable Not = rowOf Operand Unused Unused 0 false false 1
+kindTable Buf = rowOf Operand Unused Unused 0 false false 0
+kindTable Not = rowOf Operand Unused Unused 0 false false 0
 kindTable And = rowOf Operand Operand Unused 0 false false 1
 kindTable Or = rowOf Operand Operand Unused 0 false false 1
 kindTable Xor = rowOf Operand Operand Unused 0 false false 1

@@ -57,6 +57,7 @@ as-printed = (
     λ e. let z : _≡_ {A = ℕ} 144 128 = ap (at 2) e in omega arith,
     λ e. let z : _≡_ {A = ℕ} 64 80 = ap (at 2) e in omega arith,
     λ e. let z : _≡_ {A = ℕ} 4 1 = ap (at 3) e in omega arith,
+    λ e. let z : _≡_ {A = ℕ} 2 0 = ap (at 3) e in omega arith,
     λ e. let z : _≡_ {A = ℕ} 128 144 = ap (at 2) e in omega arith,
     λ e. let z : _≡_ {A = ℕ} 1 0 = ap (at 3) e in omega arith,
     λ e. let z : _≡_ {A = ℕ} 2 3 = ap (at 40) e in omega arith,

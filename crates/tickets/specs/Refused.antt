@@ -51,15 +51,29 @@ abbrev kinds : List Record
 kinds =
     input 0 1 ∷ two 2 0 0 9 ∷ one 3 0 2 ∷ one 4 0 2 ∷ two 5 0 2 4 ∷ two 6 0 2 5 ∷ two 7 0 2 6 ∷ recordOf 8 0 0 2 0 1 ∷ recordOf 9 3 0 2 8 0 ∷ []
 
+-- two bits of every wide gate, which no output reads
+abbrev wide : List Record
+wide =
+    one 3 0 1
+    ∷ one 3 1 1
+    ∷ one 4 0 1
+    ∷ one 4 1 1
+    ∷ two 5 0 1 1
+    ∷ two 5 1 1 1
+    ∷ two 6 0 1 1
+    ∷ two 6 1 1 1 ∷ two 7 0 1 1 ∷ two 7 1 1 1 ∷ recordOf 8 0 0 1 1 1 ∷ recordOf 8 0 1 1 1 1 ∷ []
+
 -- a reply slice of so many bytes
 abbrev full : ℕ → List ℕ
 full n = replicate n 255
 
 unfoldable pub trials : List Trial
 trials =
-    -- accepted: record count and gate count
+    -- accepted: record count and gate count, to which a buf or a not adds nothing, every other gate 1 and a wide one its bits, read or not
+    -- (request 2026-03)
     checked T2 (told 0 0 4 1)
-    ∷ checked kinds (told 0 0 9 7)
+    ∷ checked kinds (told 0 0 9 5)
+    ∷ checked wide (told 0 0 12 8)
     -- 1: a work word too few, whatever the ticket
     ∷ (checking, 16383, full 17, [], told 1 0 0 0, [])
     ∷ (compacting, 16383, [], full 2, told 1 0 0 0, full 2)
@@ -91,7 +105,7 @@ trials =
     ∷ checked (recordOf 8 0 0 0 0 0 ∷ recordOf 8 0 1 1 0 0 ∷ []) (told 6 1 0 0)
     -- with one label, one select they are bits of a cell; other operands may differ
     ∷ checked (input 0 1 ∷ input 1 1 ∷ []) (told 0 0 2 0)
-    ∷ checked (recordOf 8 0 0 1 0 0 ∷ recordOf 8 0 1 1 1 1 ∷ one 4 0 0 ∷ one 4 1 1 ∷ []) (told 0 0 4 4)
+    ∷ checked (recordOf 8 0 0 1 0 0 ∷ recordOf 8 0 1 1 1 1 ∷ one 4 0 0 ∷ one 4 1 1 ∷ []) (told 0 0 4 2)
     -- 7: no slot, or an output, also as the third operand
     ∷ checked (one 4 0 3 ∷ []) (told 7 0 0 0)
     ∷ checked (two 2 0 0 9 ∷ recordOf 8 0 0 0 0 2 ∷ []) (told 7 1 0 0)
@@ -104,7 +118,7 @@ trials =
     ∷ checked (input 0 1 ∷ one 4 0 4 ∷ one 3 0 3 ∷ []) (told 8 1 0 0)
     ∷ checked (one 3 0 2 ∷ one 4 0 9 ∷ []) (told 7 1 0 0)
     -- T12: bit 1 reads bit 0
-    ∷ checked (one 4 0 0 ∷ one 4 1 2 ∷ []) (told 0 0 2 2)
+    ∷ checked (one 4 0 0 ∷ one 4 1 2 ∷ []) (told 0 0 2 0)
     -- 10: too few levels, too many; before 11 and 12, and 8 before it
     ∷ (levels (0 ∷ []), words, ticketOf T2, full 2, told 10 0 0 0, full 2)
     ∷ (levels (0 ∷ 1 ∷ 2 ∷ []), words, ticketOf T2, full 2, told 10 0 0 0, full 2)

@@ -1,7 +1,7 @@
--- Wrong programs that the paper names ("Conditions of acceptance", "Readings that tempt and are wrong", "A corner to copy"), by what they answer
--- and leave in the reply, and for each a ticket at which it does not do what the call does. Other readings that tempt fail at rows of the
--- tables: muxes with exchanged arms and control nets by net first in `corners`, loops by cell in `trials`. Assumes nothing: these are
--- definitions.
+-- Wrong programs that the paper names ("Conditions of acceptance", "Readings that tempt and are wrong", "A corner to copy"), and one that counts
+-- gates as before request 2026-03, by what they answer and leave in the reply, and for each a ticket at which it does not do what the call does.
+-- Other readings that tempt fail at rows of the tables: muxes with exchanged arms and control nets by net first in `corners`, loops by cell in
+-- `trials`. Assumes nothing: these are definitions.
 use mathlib.Core.Path.{_≡_}
 use mathlib.Core.Bool.{not}
 use mathlib.Core.List.{List, [], _∷_, map}
@@ -13,7 +13,7 @@ use Rattle.cell.specs.Records.{recordOf}
 use Rattle.checking.specs.declared.Refusal.the-variants.{ShortReply}
 use Rattle.netlist.specs.Shape.{hasEffects}
 use Rattle.netlist.specs.Netlist.{Netlist, cellIn, ticketOf}
-use Rattle.basics.specs.Lists.{those}
+use Rattle.basics.specs.Lists.{slots, those}
 use Rattle.order.specs.Orders.{topoSort}
 use Rattle.design.specs.Queue.{applied, findNewCell}
 use Rattle.merge.specs.Merge.{keyOf, merge}
@@ -21,7 +21,7 @@ use Rattle.rewrite.specs.Rewriter.{Lookup, begun}
 use Rattle.rewrite.specs.Rewrite.{runItems, compacted}
 use Rattle.calls.specs.Answers.{Told, refused, checkedBy, checkFigures, writtenBy, writtenFigures, mergedBy, mergedFigures}
 use Rattle.calls.specs.Calls.{decoded, encoded, replyAfter, checkVerdict, mergeBytes, mergeAnswer, mergeReply, rewriteBytes, rewriteAnswer, rewriteReply}
-use Rattle.tickets.specs.Starred.{Call, checking, merging, rewriting, called, words, reply, T2, T3, T6, T7, T8}
+use Rattle.tickets.specs.Starred.{Call, checking, merging, rewriting, called, words, reply, T2, T3, T5, T6, T7, T8}
 
 -- by the ticket, with `words` and `reply`: the answer, and the reply at return
 abbrev pub Program : Type 0
@@ -46,11 +46,13 @@ writesTheSame = writes (λ t. rewriteBytes findNewCell (ticketOf T2))
 abbrev pub copies : Program
 copies = writes (λ t. t)
 
+-- the gate bits among slots
+abbrev pub gatesIn : Netlist → List ℕ → List ℕ
+gatesIn d ss = those (λ s. not (hasEffects (cellIn (d .cells) s))) ss
+
 -- rewrites the first gate bit and copies the others
 abbrev pub firstOnly : Netlist → Netlist
-firstOnly d =
-    let gates = those (λ s. not (hasEffects (cellIn (d .cells) s))) (topoSort (d .cells)) in
-    compacted (d .bits) (runItems findNewCell (take 1 gates) (begun (d .cells)))
+firstOnly d = compacted (d .bits) (runItems findNewCell (take 1 (gatesIn d (topoSort (d .cells)))) (begun (d .cells)))
 
 abbrev pub rewritesTheFirst : Program
 rewritesTheFirst = writes (λ t. encoded (firstOnly (decoded t)))
@@ -62,6 +64,10 @@ countsTheTicket = accepts length (rewriteBytes findNewCell)
 -- checks, and answers the record count as the gate count
 abbrev pub countsAllAsGates : Program
 countsAllAsGates t = (checkFigures (checkedBy (checkVerdict words t) (length t / 16) (length t / 16)), reply)
+
+-- checks, and answers the records other than inputs and outputs as the gate count, inverters among them
+abbrev pub chargesForInverters : Program
+chargesForInverters t = (checkFigures (checkedBy (checkVerdict words t) (length t / 16) (length (gatesIn (decoded t) (slots (length t / 16))))), reply)
 
 -- looks up a cell with its replaced operands, where the Rust has the ticket's
 abbrev pub replacedOperands : Lookup
@@ -98,6 +104,7 @@ WrongFail =
     × Fails rewriting rewritesTheFirst T7
     × Fails rewriting countsTheTicket T3
     × Fails checking countsAllAsGates T2
+    × Fails checking chargesForInverters T5
     × Fails rewriting looksThrough T6
     × Fails merging flagsWhereShorter T8
     × Fails merging writesKeys turned

@@ -7,26 +7,30 @@ use std::process::ExitCode;
 
 use library::Bench;
 use oracle::calls::{Answer, CALLS, Call, answer};
-use oracle::draw::Draw;
+use oracle::draw::{Draw, Request};
 use oracle::list::{self, ASSIGNMENTS, Case};
 use oracle::{lister, ticket};
 
-const USAGE: &str = "usage: compare [--calls check,compact,merge,rewrite,levels] SEED COUNT";
+const USAGE: &str = "usage: compare [--request 2026-03] [--calls check,compact,merge,rewrite,levels] SEED COUNT";
 
 fn main() -> ExitCode {
     let arguments: Vec<String> = std::env::args().skip(1).collect();
     let arguments: Vec<&str> = arguments.iter().map(String::as_str).collect();
-    let (calls, rest): (Option<Vec<Call>>, &[&str]) = match arguments[..] {
+    let (request, rest) = match arguments[..] {
+        ["--request", name, ref rest @ ..] => (Request::from_name(name).map(Some), rest),
+        ref rest => (Some(None), rest),
+    };
+    let (calls, rest): (Option<Vec<Call>>, &[&str]) = match rest[..] {
         ["--calls", names, ref rest @ ..] => (names.split(',').map(Call::from_name).collect(), rest),
         ref rest => (Some(CALLS.into_iter().filter(|&call| library::has(call)).collect()), rest),
     };
-    let (Some(calls), [seed, count]) = (calls, rest) else { return usage() };
+    let (Some(request), Some(calls), [seed, count]) = (request, calls, rest) else { return usage() };
     let (Ok(seed), Ok(count)) = (seed.parse(), count.parse()) else { return usage() };
     if let Some(missing) = calls.iter().find(|&&call| !library::has(call)) {
         eprintln!("the library has no {}", missing.name());
         return ExitCode::FAILURE;
     }
-    compare(&calls, seed, count)
+    compare(&calls, request, seed, count)
 }
 
 fn usage() -> ExitCode {
@@ -34,12 +38,12 @@ fn usage() -> ExitCode {
     ExitCode::FAILURE
 }
 
-fn compare(calls: &[Call], seed: u64, count: u64) -> ExitCode {
+fn compare(calls: &[Call], request: Option<Request>, seed: u64, count: u64) -> ExitCode {
     let mut draw = Draw(seed);
     let mut accepted = vec![0_u64; calls.len()];
     let mut run = vec![0_u64; calls.len()];
     for index in 0..count {
-        let case = list::drawn(&mut draw);
+        let case = list::drawn(&mut draw, request);
         for (place, &call) in calls.iter().enumerate() {
             let assignments = if call == Call::Levels { ASSIGNMENTS } else { 1 };
             for assignment in 0..assignments {

@@ -85,7 +85,7 @@ fn accepted(call: Call, ticket: &[u8], lent: Lent) -> Result<Answer, Refusal> {
 }
 
 fn checked(records: &[Record]) -> Answer {
-    let gates = records.iter().filter(|record| record.is_gate()).count();
+    let gates = records.iter().filter(|record| record.is_charged()).count();
     Answer { count: records.len() as u32, extra: gates as u32, ..Answer::default() }
 }
 

@@ -49,6 +49,25 @@ const GATES: [u8; 7] = [BUF, NOT, AND, OR, XOR, MUX, AIG];
 const MIXES: [&[u8]; 5] =
     [&GATES, &[AIG], &[AIG, AIG, XOR, NOT], &[AND, OR, XOR, NOT, AIG], &[NOT, XOR, XOR, AND, OR, AIG, AIG, AIG, MUX]];
 
+/// For request 2026-03: more than half of the gates are bufs and nots.
+const INVERTERS: &[u8] = &[BUF, BUF, BUF, NOT, NOT, NOT, AND, OR, XOR, MUX, AIG];
+
+/// A change request for which the comparison has tickets of its own, since the common draw seldom meets what it is
+/// about.
+#[derive(Clone, Copy)]
+pub enum Request {
+    GateCount,
+}
+
+impl Request {
+    pub fn from_name(name: &str) -> Option<Request> {
+        match name {
+            "2026-03" => Some(Request::GateCount),
+            _ => None,
+        }
+    }
+}
+
 /// How the cells of a ticket lie.
 #[derive(Clone, Copy)]
 enum Lie {
@@ -104,6 +123,10 @@ struct Making<'a> {
 /// A ticket of the given number of records that checking accepts.
 pub fn ticket(draw: &mut Draw, size: usize) -> Vec<Record> {
     let style = Style::draw(draw);
+    styled(draw, size, style)
+}
+
+fn styled(draw: &mut Draw, size: usize, style: Style) -> Vec<Record> {
     let mut making = Making { draw, style, bits: vec![], cells: vec![], ready: vec![] };
     making.plan(size);
     making.fill();
@@ -350,9 +373,27 @@ pub fn accepted(draw: &mut Draw) -> Vec<Record> {
     ticket(draw, size)
 }
 
+/// A ticket that checking accepts, for a request if one is named.
+pub fn requested(draw: &mut Draw, request: Option<Request>) -> Vec<Record> {
+    match request {
+        None => accepted(draw),
+        Some(Request::GateCount) => inverters(draw),
+    }
+}
+
+fn inverters(draw: &mut Draw) -> Vec<Record> {
+    let size = size(draw);
+    let style = Style { mix: INVERTERS, widest: draw.pick(&[1, 4, 64]), ..Style::draw(draw) };
+    styled(draw, size, style)
+}
+
 /// An accepted ticket torn, flipped or spliced; a few are accepted still.
 pub fn damaged(draw: &mut Draw) -> Vec<u8> {
     let records = accepted(draw);
+    damaged_from(draw, &records)
+}
+
+pub fn damaged_from(draw: &mut Draw, records: &[Record]) -> Vec<u8> {
     let mut ticket = bytes(&records[..records.len().min(60)]);
     for _ in 0..draw.within(1, 2) {
         damage(draw, &mut ticket);

@@ -2,7 +2,7 @@
 //! docs/ORACLE.md has the format of each file.
 
 use crate::calls::{Answer, Call, Lent, answer};
-use crate::draw::{Draw, accepted, damaged};
+use crate::draw::{Draw, Request, accepted, damaged, damaged_from, requested};
 use crate::ticket::{self, INPUT, MOST_RECORDS};
 use crate::{arms, paper};
 
@@ -81,8 +81,10 @@ fn levels(draw: &mut Draw, inputs: usize, assignment: usize) -> Vec<u8> {
 }
 
 /// A drawn case of any sort, as the comparison uses it.
-pub fn drawn(draw: &mut Draw) -> Case {
-    let ticket = if draw.percent(20) { damaged(draw) } else { ticket::bytes(&accepted(draw)) };
+pub fn drawn(draw: &mut Draw, request: Option<Request>) -> Case {
+    let is_damaged = draw.percent(20);
+    let records = requested(draw, request);
+    let ticket = if is_damaged { damaged_from(draw, &records) } else { ticket::bytes(&records) };
     if draw.percent(10) { Case::scant(draw, ticket) } else { Case::ample(draw, ticket) }
 }
 

@@ -79,8 +79,14 @@ impl Record {
         [&mut self.a, &mut self.b, &mut self.c].into_iter().take(count)
     }
 
+    /// Neither input nor output, whether charged or not.
     pub fn is_gate(&self) -> bool {
         !matches!(self.kind, INPUT | OUTPUT)
+    }
+
+    /// Whether the gate count charges for the record: buf and not are free (request 2026-03).
+    pub fn is_charged(&self) -> bool {
+        matches!(self.kind, AND | OR | XOR | MUX | AIG)
     }
 }
 
