@@ -56,7 +56,7 @@ extern "C" {
 #endif
 
 /* Refusals 1 to 8. Accepted: record count and gate count. An and, or, xor, mux or and-inverter record counts 1, so a
- * wide gate counts its bits, read or not; a buf, not, input or output counts 0. */
+ * wide gate counts its bits, and one that nothing reads counts too; a buf, not, input or output counts 0. */
 uint32_t cabbagetier_check(const uint8_t *ticket, size_t ticket_len,
                            uint32_t *work, size_t work_len,
                            uint32_t answer[8]);

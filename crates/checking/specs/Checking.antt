@@ -130,7 +130,7 @@ unfoldable pub checkStages : ℕ → List ℕ → List Stage
 checkStages words t = sizeGroup words t ++ netlistStages (recordsOf t)
 
 -- the gate count: the sum of what records add by the kind table, 1 for and, or, xor, mux and and-inverter and 0 for all others (request 2026-03,
--- in place of the paper's records other than inputs and outputs). Each bit of a wide gate is a record, read or not
+-- in place of the paper's records other than inputs and outputs). Each bit of a wide gate is a record, and one that nothing reads counts too
 unfoldable pub gateCount : List Record → ℕ
 gateCount [] = 0
 gateCount (r ∷ rs) = kindOf (r .kind) .gates + gateCount rs

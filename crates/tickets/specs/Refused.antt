@@ -69,11 +69,12 @@ full n = replicate n 255
 
 unfoldable pub trials : List Trial
 trials =
-    -- accepted: record count and gate count, to which a buf or a not adds nothing, every other gate 1 and a wide one its bits, read or not
-    -- (request 2026-03)
+    -- accepted: record count and gate count, to which each record of an and, or, xor, mux or and-inverter adds 1, also where nothing reads it,
+    -- and all others 0 (request 2026-03). Where a kind adds 0 or 1, these rows leave no other table
     checked T2 (told 0 0 4 1)
     ∷ checked kinds (told 0 0 9 5)
     ∷ checked wide (told 0 0 12 8)
+    ∷ checked (one 3 0 1 ∷ one 4 0 2 ∷ two 2 0 3 9 ∷ []) (told 0 0 3 0)
     -- 1: a work word too few, whatever the ticket
     ∷ (checking, 16383, full 17, [], told 1 0 0 0, [])
     ∷ (compacting, 16383, [], full 2, told 1 0 0 0, full 2)
