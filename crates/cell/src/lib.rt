@@ -1,6 +1,5 @@
-// Records of a ticket and one-bit cells, after cell.rs. A record is read out of the ticket's bytes and
-// written into a reply. Readers and writers of single bytes and words are total, so that nothing above has
-// an index to prove; a record is read of a slot that the ticket has, without a test at each byte.
+// Records of a ticket and one-bit cells, after cell.rs. A record is read out of a slot that the ticket has, and
+// written into one that the reply has: no byte of it is tested for.
 use kinds::Sort;
 use value::ControlNet;
 use value::Driver;
@@ -78,25 +77,7 @@ fn inside32(s: &[u8], i: usize) -> u32
     b0 + 256 * (b1 + 256 * (b2 + 256 * b3))
 }
 
-fn write16(s: &mut [u8], i: usize, v: u16)
-    requires { ⌜ i < 1099511627776 ⌝ }
-    ensures { λ _. ⌜ now (s .exit) ≡ store16 (now (s .entry)) i v ⌝ }
-{
-    basics::put_byte(s, i, (v % 256) as u8);
-    basics::put_byte(s, i + 1, (v / 256 % 256) as u8);
-}
-
-fn write32(s: &mut [u8], i: usize, v: u32)
-    requires { ⌜ i < 1099511627776 ⌝ }
-    ensures { λ _. ⌜ now (s .exit) ≡ store32 (now (s .entry)) i v ⌝ }
-{
-    basics::put_byte(s, i, (v % 256) as u8);
-    basics::put_byte(s, i + 1, (v / 256 % 256) as u8);
-    basics::put_byte(s, i + 2, (v / 65536 % 256) as u8);
-    basics::put_byte(s, i + 3, (v / 16777216 % 256) as u8);
-}
-
-// The same where all bytes lie in the slice.
+// Writers of the same.
 fn set_inside(s: &mut [u8], i: usize, v: u8)
     requires { ⌜ i < length (now s) ⌝ }
     ensures { λ _. ⌜ now (s .exit) ≡ set (now (s .entry)) i v ⌝ }
@@ -146,7 +127,7 @@ pub fn kind_at(t: &[u8], s: Slot) -> u8
     inside(t, (s.0 as usize) * 16)
 }
 
-// Writes the 16 bytes of a record, all of which lie in the slice.
+// Writes the 16 bytes of a record from an index on, all of which lie in the slice.
 fn store_inside(reply: &mut [u8], i: usize, r: Record)
     requires { ⌜ i + 16 ≤ length (now reply) ⌝ }
     ensures { λ _. ⌜ now (reply .exit) ≡ sets (now (reply .entry)) i (bytesOf r) ⌝ }
@@ -159,29 +140,12 @@ fn store_inside(reply: &mut [u8], i: usize, r: Record)
     set32(reply, i + 12, r.c);
 }
 
-// The same with a test at each byte.
-fn store_torn(reply: &mut [u8], i: usize, r: Record)
-    requires { ⌜ i < 549755813888 ⌝ }
-    ensures { λ _. ⌜ now (reply .exit) ≡ sets (now (reply .entry)) i (bytesOf r) ⌝ }
-{
-    basics::put_byte(reply, i, r.kind);
-    basics::put_byte(reply, i + 1, r.flags);
-    write16(reply, i + 2, r.bit);
-    write32(reply, i + 4, r.a);
-    write32(reply, i + 8, r.b);
-    write32(reply, i + 12, r.c);
-}
-
-// Writes a record's 16 bytes into a slot of a reply; what lies past the reply's end is left out.
+// Writes a record's 16 bytes into a slot that the reply has.
 pub fn write_record(reply: &mut [u8], s: Slot, r: Record)
+    requires { ⌜ s .0 * 16 + 16 ≤ length (now reply) ⌝ }
     ensures { λ _. ⌜ now (reply .exit) ≡ sets (now (reply .entry)) (s .0 * 16) (bytesOf r) ⌝ }
 {
-    let i = (s.0 as usize) * 16;
-    if i + 16 <= reply.len() {
-        store_inside(reply, i, r);
-    } else {
-        store_torn(reply, i, r);
-    }
+    store_inside(reply, (s.0 as usize) * 16, r);
 }
 
 // The fields by number: 1 is a, 2 is b, 3 is c.

@@ -1,4 +1,5 @@
 pub mod Lists
+pub mod Tally
 pub mod Compacting
 pub mod Keeping
-pub mod Noting
+pub mod Tallying

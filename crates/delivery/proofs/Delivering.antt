@@ -11,7 +11,8 @@ use Rattle.netlist.specs.Netlist.{netlistOf}
 use Rattle.netlist.proofs.Frames.{within-drop}
 use Rattle.compact.specs.Compact.{compact}
 use Rattle.design.specs.inner.Words.{netlistIn}
-use Rattle.compact.specs.inner.Words.{keptIn, Keeps}
+use Rattle.compact.specs.inner.Words.{Keeps}
+use Rattle.compact.proofs.Tally.{all-is-count, all-few}
 use Rattle.compact.proofs.Compacting.{compact-length}
 use Rattle.checking.specs.declared.Refusal.the-variants.{ShortReply}
 use Rattle.checking.specs.declared.Verdict.the-variants as verdict
@@ -48,7 +49,7 @@ unfolding put
 put-is reply bytes h = sets-eq bytes reply 0 (omega arith) ∙ ap (λ (k : ℕ). bytes ++ drop k reply) (let e : 0 + length bytes ≡ length bytes = omega arith in e)
 
 -- the netlist of the words, compacted
-module _ (n : ℕ) (ws₀ ws : List ℕ) (g : Keeps n ws₀ ws) (k : ℕ) (k-is : k ≡ keptIn n ws n) where
+module _ (n k : ℕ) (ws₀ ws : List ℕ) (g : Keeps n k ws₀ ws) where
   abbrev result : List ℕ → List ℕ
   result w = encoded (compact (netlistIn n w))
 
@@ -59,7 +60,10 @@ module _ (n : ℕ) (ws₀ ws : List ℕ) (g : Keeps n ws₀ ws) (k : ℕ) (k-is 
   behind = within-drop visitedAt replacedAt 16384 ws₀ ws (omega arith) (g .frame)
 
   size : length (result ws₀) ≡ k * 16
-  size = ap length (sym same-result) ∙ compact-length n ws (g .marks) ∙ ap (λ (m : ℕ). m * 16) (sym k-is)
+  size = ap length (sym same-result) ∙ compact-length n ws (g .marks) ∙ ap (λ (m : ℕ). m * 16) (sym (all-is-count n k ws (g .tallied)))
+
+  pub size-fits : k * 16 < 4294967296
+  size-fits = let few : n ≤ 1024 = g .tallied .few in omega (arith, all-few n k ws (g .tallied))
 
   pub compacts-none : (reply : List ℕ) → length reply < k * 16 → Delivers (result ws₀) ws₀ ws reply reply (Refused ShortReply)
   compacts-none reply h = delivers-none (result ws₀) ws₀ ws reply (k * 16) size behind h

@@ -45,11 +45,11 @@ pub fn deliver(work: &mut [u32], n: u32, reply: &mut [u8]) -> Written
     requires { ⌜ n ≤ 1024 ⌝ }
     ensures { λ r. ⌜ Delivers (compactedIn n (now (work .entry))) (now (work .entry)) (now (work .exit)) (now (reply .entry)) (now (reply .exit)) r ⌝ }
 {
-    compact::keep(work, n);
-    let bytes = compact::kept_count(work, n) * 16;
+    let total = compact::keep(work, n);
+    let bytes = total * 16;
     if reply.len() < (bytes as usize) {
         return Written::Refused(Refusal::ShortReply);
     }
-    compact::compact(work, n, reply);
+    compact::compact(work, n, total, reply);
     Written::Accepted(bytes)
 }

@@ -26,16 +26,18 @@ impl Case {
 
 type Make = fn(usize) -> Vec<Record>;
 
-const WORST: [(&str, Make); 11] = [
+const WORST: [(&str, Make); 13] = [
     ("chain", chain),
     ("chain, readers first", |size| renumber(&chain(size), &(0..size).rev().collect::<Vec<_>>())),
     ("ladder", ladder),
+    ("all reached, operands far", far),
     ("one wide cell", wide),
     ("one wide cell that reads itself", wide_chain),
     ("eight wide cells", wide_cells),
     ("all inputs", |size| paper::inputs(size as u32)),
     ("equal gates", |size| framed(2, size, |_| Record::new(AND, net_of(0), net_of(1), 0))),
     ("gates of different pairs", pairs),
+    ("ors and their outputs", ors_and_outputs),
     ("ring", |size| (0..size).map(|slot| Record::new(BUF, net_of((slot + 1) % size), 0, 0)).collect()),
     ("muxes before a loop", late_loop),
 ];
@@ -75,6 +77,12 @@ fn ladder(size: usize) -> Vec<Record> {
     framed(2, size, |slot| Record::new(AND, net_of(slot - 1), net_of(slot - 2), 0))
 }
 
+/// Each gate reads the one before, so that all are reached, and the one at half its slot: as far from it as from the
+/// first.
+fn far(size: usize) -> Vec<Record> {
+    framed(2, size, |slot| Record::new(AND, net_of(slot - 1), net_of(slot / 2), 0))
+}
+
 fn wide(size: usize) -> Vec<Record> {
     framed(1, size, |slot| Record { bit: slot as u16 - 1, ..inverter_of(0) })
 }
@@ -97,6 +105,16 @@ fn pairs(size: usize) -> Vec<Record> {
     let inputs = (2..size).find(|inputs| inputs * (inputs - 1) / 2 + inputs + 1 >= size).unwrap();
     let ors = paper::ors(inputs as u32, size - 1 - inputs);
     framed(inputs, size, |slot| ors[slot])
+}
+
+/// Half of the records are ors of different pairs of inputs, of which the outputs read all but a few. An or is rewritten
+/// into two new cells, so rewriting takes twice as many slots as there are records: 1,024 for a full ticket.
+fn ors_and_outputs(size: usize) -> Vec<Record> {
+    let ors = size / 2;
+    let inputs = (2..size).find(|inputs| inputs * (inputs - 1) / 2 >= ors).unwrap();
+    let mut records = paper::ors(inputs as u32, ors);
+    records.extend((0..size - inputs - ors).map(|label| Record::new(OUTPUT, net_of(inputs + label), label as u32, 0)));
+    records
 }
 
 /// Every record reaches all later ones, and only the last reaches itself.

@@ -1,5 +1,7 @@
-//! Times the static library's calls beside the Rust's passes and prints tables for docs/BENCH.md.
+//! Times the static library's calls beside the Rust's passes, or several builds of the library beside each other, and
+//! prints tables for docs/BENCH.md.
 
+mod builds;
 mod cases;
 #[path = "../../compare/src/guarded.rs"]
 mod guarded;
@@ -16,29 +18,52 @@ use std::{env, fs};
 
 use oracle::calls::{CALLS, Call};
 
+use builds::Build;
 use cases::Case;
+use library::Calls;
 use table::Row;
 use timing::{BLOCK, Trial};
 
 const ROUNDS: usize = 25;
 
+const USAGE: &str = "usage: bench [ROUNDS], or bench --builds ROUNDS NAME=LIBRARY ..";
+
 fn main() -> ExitCode {
-    let rounds = env::args().nth(1).map_or(Ok(ROUNDS), |digits| digits.parse());
-    let Some(rounds) = rounds.ok().filter(|&rounds| rounds > 0) else {
-        eprintln!("usage: bench [ROUNDS]");
+    let arguments: Vec<String> = env::args().skip(1).collect();
+    let arguments: Vec<&str> = arguments.iter().map(String::as_str).collect();
+    let (builds, digits) = match arguments[..] {
+        ["--builds", digits, ref named @ ..] => (named.iter().map(|name| Build::open(name)).collect(), Some(digits)),
+        [digits] => (Some(vec![]), Some(digits)),
+        [] => (Some(vec![]), None),
+        _ => (None, None),
+    };
+    let rounds = digits.map_or(Ok(ROUNDS), str::parse);
+    let (Some(builds), Some(rounds)) = (builds, rounds.ok().filter(|&rounds| rounds > 0)) else {
+        eprintln!("{USAGE}");
         return ExitCode::FAILURE;
     };
-    let calls: Vec<Call> = CALLS.into_iter().filter(|&call| library::has(call)).collect();
     let before = load();
-    let rows = rows(&calls, rounds);
+    let tables: Box<dyn FnOnce()> = match builds.is_empty() {
+        true => beside_the_rust(rounds),
+        false => builds::timed(&builds, rounds),
+    };
     println!("{} calls behind each time. {}, {} cores.", rounds * BLOCK, processor(), cores());
     println!("Processes that shared the cores, by the load: {before} before, {} after, this run among them.", load());
-    calls.iter().for_each(|&call| table::call_table(&rows, call));
-    if calls.len() > 1 {
-        table::summary(&rows, &calls);
-    }
-    table::noise(&rows);
+    tables();
     ExitCode::SUCCESS
+}
+
+/// What prints the tables of the library beside the Rust.
+fn beside_the_rust(rounds: usize) -> Box<dyn FnOnce()> {
+    let calls: Vec<Call> = CALLS.into_iter().filter(|&call| Calls::linked().has(call)).collect();
+    let rows = rows(&calls, rounds);
+    Box::new(move || {
+        calls.iter().for_each(|&call| table::call_table(&rows, call));
+        if calls.len() > 1 {
+            table::summary(&rows, &calls);
+        }
+        table::noise(&rows);
+    })
 }
 
 /// Every round takes all rows in turn, so that no busy spell of the machine falls on one of them alone.

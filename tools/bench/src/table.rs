@@ -18,11 +18,11 @@ impl Row {
     }
 }
 
-fn line(cells: impl IntoIterator<Item = String>) {
+pub fn line(cells: impl IntoIterator<Item = String>) {
     println!("| {} |", cells.into_iter().collect::<Vec<_>>().join(" | "));
 }
 
-fn head(cells: Vec<String>) {
+pub fn head(cells: Vec<String>) {
     let rule = vec!["---".to_string(); cells.len()];
     line(cells);
     line(rule);

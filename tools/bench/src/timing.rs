@@ -11,7 +11,7 @@ use oracle::normalize::Normalize;
 use oracle::ticket::{self, INPUT, count_kind};
 use oracle::{Design, beside, merge};
 
-use crate::library::Bench;
+use crate::library::{Bench, Calls};
 
 /// Calls of one side before the other's turn. The first of a block find the other side's data in the cache.
 pub const BLOCK: usize = 8;
@@ -21,13 +21,13 @@ pub const BLOCK: usize = 8;
 pub struct Figure(pub [f64; 4]);
 
 impl Figure {
-    fn of(mut samples: Vec<f64>) -> Figure {
+    pub fn of(mut samples: Vec<f64>) -> Figure {
         samples.sort_by(f64::total_cmp);
         Figure(array::from_fn(|quarters| samples[(samples.len() - 1) * quarters / 4]))
     }
 
     /// The figures' mean, for tickets that share a row.
-    fn mean(figures: &[Figure]) -> Figure {
+    pub fn mean(figures: &[Figure]) -> Figure {
         Figure(array::from_fn(|at| figures.iter().map(|figure| figure.0[at]).sum::<f64>() / figures.len() as f64))
     }
 
@@ -69,22 +69,17 @@ pub struct Trial {
 }
 
 impl Trial {
-    /// Ends the run if the library's answer is not the oracle's.
     pub fn new(call: Call, ticket: &[u8]) -> Trial {
-        let inputs = count_kind(&ticket::records(ticket), INPUT);
-        let levels: Vec<u8> = (0..inputs).map(|input| (input % 3) as u8).collect();
-        let lent = Lent { levels: &levels, ..Lent::AMPLE };
-        let mut bench = Bench::new(ticket, lent, &mut Draw(1));
-        let refusal = bench.run(call);
-        let fault = bench.fault(refusal, &answer(call, ticket, lent));
-        assert_eq!(fault, None, "{} on a ticket of {} bytes", call.name(), ticket.len());
+        let levels = levels_for(ticket);
+        let bench = checked(&Calls::linked(), call, ticket, &levels);
         Trial { call, ticket: ticket.to_vec(), levels, bench, samples: vec![vec![]; columns(call).len()] }
     }
 
     /// A block of the library's calls, then one of the Rust's.
     pub fn round(&mut self) {
+        let linked = Calls::linked();
         for _ in 0..BLOCK {
-            let time = timed(|| self.bench.run(black_box(self.call)));
+            let time = timed(|| self.bench.run(&linked, black_box(self.call)));
             self.samples[0].push(time);
         }
         for _ in 0..BLOCK {
@@ -99,6 +94,22 @@ impl Trial {
     }
 }
 
+/// Levels of all three kinds, one for each input.
+pub fn levels_for(ticket: &[u8]) -> Vec<u8> {
+    let inputs = count_kind(&ticket::records(ticket), INPUT);
+    (0..inputs).map(|input| (input % 3) as u8).collect()
+}
+
+/// What is lent to a build's call, after a first call. Ends the run if its answer is not the oracle's.
+pub fn checked(calls: &Calls, call: Call, ticket: &[u8], levels: &[u8]) -> Bench {
+    let lent = Lent { levels, ..Lent::AMPLE };
+    let mut bench = Bench::new(ticket, lent, &mut Draw(1));
+    let refusal = bench.run(calls, call);
+    let fault = bench.fault(refusal, &answer(call, ticket, lent));
+    assert_eq!(fault, None, "{} on a ticket of {} bytes", call.name(), ticket.len());
+    bench
+}
+
 /// A figure for each column, over trials of one call.
 pub fn figures(trials: &[Trial]) -> Vec<Figure> {
     let column = |at: usize| trials.iter().map(|trial| Figure::of(trial.samples[at].clone())).collect::<Vec<_>>();
@@ -109,7 +120,7 @@ fn micros(from: Instant, to: Instant) -> f64 {
     (to - from).as_nanos() as f64 / 1000.0
 }
 
-fn timed<T>(run: impl FnOnce() -> T) -> f64 {
+pub fn timed<T>(run: impl FnOnce() -> T) -> f64 {
     let start = Instant::now();
     let result = black_box(run());
     let end = Instant::now();

@@ -16,19 +16,42 @@ mod bound {
     include!(concat!(env!("OUT_DIR"), "/library.rs"));
 }
 
-pub fn has(call: Call) -> bool {
-    match call {
-        Call::Check => bound::check().is_some(),
-        Call::Levels => bound::levels().is_some(),
-        _ => ticket_call(call).is_some(),
-    }
+/// The calls that a build of the library has.
+#[derive(Clone, Copy)]
+pub struct Calls {
+    pub check: Option<CheckCall>,
+    pub levels: Option<LevelsCall>,
+    pub compact: Option<TicketCall>,
+    pub merge: Option<TicketCall>,
+    pub rewrite: Option<TicketCall>,
 }
 
-fn ticket_call(call: Call) -> Option<TicketCall> {
-    match call {
-        Call::Compact => bound::compact(),
-        Call::Merge => bound::merge(),
-        _ => bound::rewrite(),
+impl Calls {
+    /// Those of the build that this program is linked with.
+    pub fn linked() -> Calls {
+        Calls {
+            check: bound::check(),
+            levels: bound::levels(),
+            compact: bound::compact(),
+            merge: bound::merge(),
+            rewrite: bound::rewrite(),
+        }
+    }
+
+    pub fn has(&self, call: Call) -> bool {
+        match call {
+            Call::Check => self.check.is_some(),
+            Call::Levels => self.levels.is_some(),
+            _ => self.ticket_call(call).is_some(),
+        }
+    }
+
+    fn ticket_call(&self, call: Call) -> Option<TicketCall> {
+        match call {
+            Call::Compact => self.compact,
+            Call::Merge => self.merge,
+            _ => self.rewrite,
+        }
     }
 }
 
@@ -58,8 +81,8 @@ impl Bench {
         }
     }
 
-    /// The number that the library's call returns.
-    pub fn run(&mut self, call: Call) -> u32 {
+    /// The number that a build's call returns.
+    pub fn run(&mut self, calls: &Calls, call: Call) -> u32 {
         let Bench { ticket, levels, work, reply, answer } = self;
         let (ticket_len, levels_len, work_len, reply_len) = (ticket.len(), levels.len(), work.len(), reply.len());
         let (ticket, levels, work) = (ticket.pointer(), levels.pointer(), work.pointer());
@@ -67,11 +90,11 @@ impl Bench {
         // SAFETY: each pointer is followed by its length, and no two slices overlap.
         unsafe {
             match call {
-                Call::Check => bound::check().unwrap()(ticket, ticket_len, work, work_len, answer),
-                Call::Levels => bound::levels().unwrap()(
+                Call::Check => calls.check.unwrap()(ticket, ticket_len, work, work_len, answer),
+                Call::Levels => calls.levels.unwrap()(
                     ticket, ticket_len, levels, levels_len, work, work_len, reply, reply_len, answer,
                 ),
-                _ => ticket_call(call).unwrap()(ticket, ticket_len, work, work_len, reply, reply_len, answer),
+                _ => calls.ticket_call(call).unwrap()(ticket, ticket_len, work, work_len, reply, reply_len, answer),
             }
         }
     }

@@ -5,13 +5,13 @@ mod library;
 
 use std::process::ExitCode;
 
-use library::Bench;
+use library::{Bench, Calls};
 use oracle::calls::{Answer, CALLS, Call, answer};
 use oracle::draw::{Draw, Request};
 use oracle::list::{self, ASSIGNMENTS, Case};
 use oracle::{lister, ticket};
 
-const USAGE: &str = "usage: compare [--request 2026-03] [--calls check,compact,merge,rewrite,levels] SEED COUNT";
+const USAGE: &str = "usage: compare [--request 2026-03|2026-05] [--calls check,compact,merge,rewrite,levels] SEED COUNT";
 
 fn main() -> ExitCode {
     let arguments: Vec<String> = std::env::args().skip(1).collect();
@@ -20,13 +20,14 @@ fn main() -> ExitCode {
         ["--request", name, ref rest @ ..] => (Request::from_name(name).map(Some), rest),
         ref rest => (Some(None), rest),
     };
+    let linked = Calls::linked();
     let (calls, rest): (Option<Vec<Call>>, &[&str]) = match rest[..] {
         ["--calls", names, ref rest @ ..] => (names.split(',').map(Call::from_name).collect(), rest),
-        ref rest => (Some(CALLS.into_iter().filter(|&call| library::has(call)).collect()), rest),
+        ref rest => (Some(CALLS.into_iter().filter(|&call| linked.has(call)).collect()), rest),
     };
     let (Some(request), Some(calls), [seed, count]) = (request, calls, rest) else { return usage() };
     let (Ok(seed), Ok(count)) = (seed.parse(), count.parse()) else { return usage() };
-    if let Some(missing) = calls.iter().find(|&&call| !library::has(call)) {
+    if let Some(missing) = calls.iter().find(|&&call| !linked.has(call)) {
         eprintln!("the library has no {}", missing.name());
         return ExitCode::FAILURE;
     }
@@ -69,7 +70,7 @@ fn agree(case: &Case, call: Call, assignment: usize, draw: &mut Draw) -> Option<
     let lent = case.lent(call, assignment);
     let expected = answer(call, &case.ticket, lent);
     let mut bench = Bench::new(&case.ticket, lent, draw);
-    let refusal = bench.run(call);
+    let refusal = bench.run(&Calls::linked(), call);
     let Some(fault) = bench.fault(refusal, &expected) else { return Some(refusal) };
     let Answer { refusal: number, place, count, extra, ref reply } = expected;
     println!("{} differs: {fault}", call.name());

@@ -1,4 +1,4 @@
-use Rattle.compact.proofs.Compacting.{Writing, writing-none, writing-numbered, writing-more, writing-all}
+use Rattle.compact.proofs.Compacting.{Writing, writing-none, writing-room, writing-more, writing-all}
 use Prim.Native.Nat.{_-_}
 use native.Mathlib.Omega.{arith}
 use borrow.Author.Needs.{needs}
@@ -9,10 +9,10 @@ use Rattle.compact.proofs.compact.Lts as lts
 use Rattle.compact.proofs.copy_kept.Reads as copy-kept-reads
 
 abbrev Inv-loop : tie.InvT-loop
-Inv-loop work n reply₀ s₀ at₀ reply s at = Writing n work reply₀ reply s at
+Inv-loop work n count reply₀ s₀ reply s = Writing n work reply₀ reply s
 
 abbrev μ-loop : tie.MeasureT-loop
-μ-loop work n reply₀ s₀ at₀ reply s at = n - s
+μ-loop work n count reply₀ s₀ reply s = n - s
 
 -- src/lib.rt
 loop-holds : tie.Need-loop-holds Inv-loop μ-loop
@@ -20,7 +20,7 @@ loop-holds c = search writing-none
 
 -- src/lib.rt
 copy-kept-requires : tie.Need-copy-kept-requires Inv-loop μ-loop
-copy-kept-requires c κs = (search writing-numbered, search needs)
+copy-kept-requires c κs = (search needs, (search needs, search writing-room))
 
 -- src/lib.rt
 add-s : tie.Need-add-s Inv-loop μ-loop

@@ -1,15 +1,10 @@
-use Rattle.compact.proofs.Compacting.{kept-at}
+use Rattle.compact.proofs.Tally.{kept-read}
 use borrow.Author.Needs.{needs}
 use Rattle.compact.proofs.is_kept.Statement.{statement}
 use Rattle.compact.proofs.is_kept.Tie as tie
 use Rattle.compact.proofs.is_kept.Reads as reads
 use Rattle.compact.proofs.is_kept.Lts as lts
 use Rattle.basics.proofs.word.Reads as word-reads
-use Rattle.cell_order.proofs.start_of.Reads as start-of-reads
-
--- src/lib.rt
-start-of-requires : tie.Need-start-of-requires
-start-of-requires c κs = search needs
 
 -- src/lib.rt
 cast-word : tie.Need-cast-word
@@ -25,7 +20,7 @@ word-requires c κs = search needs
 
 -- src/lib.rt
 returns : tie.Need-returns
-returns c = search kept-at
+returns c = search kept-read
 
 pub is-kept-spec : {M : Type 1} → statement M
-is-kept-spec = tie.close (tie.spec start-of-requires cast-word add-word word-requires returns)
+is-kept-spec = tie.close (tie.spec cast-word add-word word-requires returns)

@@ -4,7 +4,7 @@ use Rattle.compact.proofs.net_map.Statement.{statement}
 use Rattle.compact.proofs.net_map.Tie as tie
 use Rattle.compact.proofs.net_map.Reads as reads
 use Rattle.compact.proofs.net_map.Lts as lts
-use Rattle.compact.proofs.count_kept.Reads as count-kept-reads
+use Rattle.compact.proofs.tally_at.Reads as tally-at-reads
 use Rattle.value.proofs.Net.as_cell_index.Reads as as-cell-index-reads
 use Rattle.value.proofs.Net.from_cell_index.Reads as from-cell-index-reads
 
@@ -17,12 +17,12 @@ enum-told : tie.Need-enum-told
 enum-told c = search needs
 
 -- src/lib.rt
-enum-known-y : tie.Need-enum-known-y
-enum-known-y c = search needs
+enum-known-s : tie.Need-enum-known-s
+enum-known-s c = search needs
 
 -- src/lib.rt
-count-kept-requires : tie.Need-count-kept-requires
-count-kept-requires c κs = search needs
+tally-at-requires : tie.Need-tally-at-requires
+tally-at-requires c κs = search needs
 
 -- src/lib.rt
 from-cell-index-requires : tie.Need-from-cell-index-requires
@@ -42,8 +42,8 @@ net-map-spec =
     (tie.spec
     as-cell-index-requires
     enum-told
-    enum-known-y
-    count-kept-requires
+    enum-known-s
+    tally-at-requires
     from-cell-index-requires
     returns
     returns-2)

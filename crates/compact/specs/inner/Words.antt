@@ -1,9 +1,9 @@
--- The marks and notes of `compact` in the words of the work slice. Public contracts do not cite this file: at return the words are 0. Assumes
+-- The marks and tallies of `compact` in the words of the work slice. Public contracts do not cite this file: at return the words are 0. Assumes
 -- nothing: these are definitions.
 use mathlib.Core.Path.{_≡_}
 use mathlib.Core.Bool.{Bool, cond, _&&_}
 use mathlib.Core.List.{List, [], _∷_}
-use Prim.Native.Nat.{ℕ, _+_, _<_, _≤_}
+use Prim.Native.Nat.{ℕ, zero, suc, _+_, _*_, _<_, _≤_}
 use lib.Dec.{eqb}
 use lib.ListN.{length, getD}
 use Rattle.value.specs.declared.Net.{Net}
@@ -35,27 +35,35 @@ pub record Marked (n : ℕ) (ws ws′ : List ℕ) : Type 0 where
   pub marks : marksIn visitedAt n ws′ ≡ keep (netlistIn n ws′)
   pub frame : Within visitedAt replacedAt ws ws′
 
--- the area of the order, which is not needed any more, notes of each slot whether it is kept
-pub record Noted (n : ℕ) (ws : List ℕ) : Type 0 where
+-- request 2026-05: the tally that is kept while going over the slots, 0 before the first, one more behind each that is kept. It equals
+-- `countKept` (proofs/Tally.antt, `tally-is-count`)
+unfoldable pub tally : List ℕ → List Bool → ℕ → ℕ
+tally bits marks zero = 0
+tally bits marks (suc s) = tally bits marks s + cond (isKept bits marks s) 1 0
+
+abbrev pub tallyIn : ℕ → List ℕ → ℕ → ℕ
+tallyIn n ws s = tally (netlistIn n ws .bits) (marksIn visitedAt n ws) s
+
+-- the word of a slot: twice the tally before it, and one more if it is kept itself
+abbrev pub tallyWord : ℕ → List ℕ → ℕ → ℕ
+tallyWord n ws s = 2 * tallyIn n ws s + cond (keptAt n ws s) 1 0
+
+-- these words stand in the area of the order, which is not needed any more; the tally behind the last slot stands in no word: it is `total`
+pub record Tallied (n total : ℕ) (ws : List ℕ) : Type 0 where
   pub long : 16384 ≤ length ws
   pub few : n ≤ 1024
-  pub each : (s : ℕ) → s < n → getD ws (orderAt + s) 0 ≡ cond (keptAt n ws s) 1 0
+  pub each : (s : ℕ) → s < n → getD ws (orderAt + s) 0 ≡ tallyWord n ws s
+  pub all : total ≡ tallyIn n ws n
 
--- with these, a slot up to the last and how many before it are kept
-pub record Numbered (n s at : ℕ) (ws : List ℕ) : Type 0 where
-  pub noted : Noted n ws
-  pub within : s ≤ n
-  pub number : at ≡ keptIn n ws s
-
-pub record Notes (n : ℕ) (ws ws′ : List ℕ) : Type 0 where
-  pub noted : Noted n ws′
+pub record Tallies (n total : ℕ) (ws ws′ : List ℕ) : Type 0 where
+  pub tallied : Tallied n total ws′
   pub frame : Within orderAt replacedAt ws ws′
 
--- both
-pub record Keeps (n : ℕ) (ws ws′ : List ℕ) : Type 0 where
+-- marked, and then tallied
+pub record Keeps (n total : ℕ) (ws ws′ : List ℕ) : Type 0 where
   pub records : recordsIn n ws′ ≡ recordsIn n ws
   pub marks : marksIn visitedAt n ws′ ≡ keep (netlistIn n ws′)
-  pub noted : Noted n ws′
+  pub tallied : Tallied n total ws′
   pub frame : Within visitedAt replacedAt ws ws′
 
 -- a net's new number

@@ -1,5 +1,5 @@
 -- `delivery::deliver` meets its contract. Assumes nothing.
-use Rattle.delivery.proofs.Delivering.{compacts-none, compacts-all}
+use Rattle.delivery.proofs.Delivering.{size-fits, compacts-none, compacts-all}
 use borrow.Author.Needs.{needs}
 use Rattle.delivery.proofs.deliver.Statement.{statement}
 use Rattle.delivery.proofs.deliver.Tie as tie
@@ -7,19 +7,14 @@ use Rattle.delivery.proofs.deliver.Reads as reads
 use Rattle.delivery.proofs.deliver.Lts as lts
 use Rattle.compact.proofs.compact.Reads as compact-reads
 use Rattle.compact.proofs.keep.Reads as keep-reads
-use Rattle.compact.proofs.kept_count.Reads as kept-count-reads
 
 -- src/lib.rt
 keep-requires : tie.Need-keep-requires
 keep-requires c κs = search needs
 
 -- src/lib.rt
-kept-count-requires : tie.Need-kept-count-requires
-kept-count-requires c κs = search needs
-
--- src/lib.rt
 mul-bytes : tie.Need-mul-bytes
-mul-bytes c = search needs
+mul-bytes c = search size-fits
 
 -- src/lib.rt
 cast-if1 : tie.Need-cast-if1
@@ -54,7 +49,6 @@ deliver-spec =
     tie.close
     (tie.spec
     keep-requires
-    kept-count-requires
     mul-bytes
     cast-if1
     same-length

@@ -1,32 +1,36 @@
-use Rattle.compact.proofs.Noting.{Noting, noting-none, noting-more, noting-all}
+use Rattle.compact.proofs.Tallying.{Tallying, tallying-none, twice-fits, word-fits, next-fits, tallying-more, tallying-all}
 use Prim.Native.Nat.{_-_}
 use native.Mathlib.Omega.{arith}
 use borrow.Author.Needs.{needs}
-use Rattle.compact.proofs.note_kept.Statement.{statement}
-use Rattle.compact.proofs.note_kept.Tie as tie
-use Rattle.compact.proofs.note_kept.Reads as reads
-use Rattle.compact.proofs.note_kept.Lts as lts
-use Rattle.basics.proofs.put.Reads as put-reads
-use Rattle.compact.proofs.is_kept.Reads as is-kept-reads
+use Rattle.compact.proofs.tally_kept.Statement.{statement}
+use Rattle.compact.proofs.tally_kept.Tie as tie
+use Rattle.compact.proofs.tally_kept.Reads as reads
+use Rattle.compact.proofs.tally_kept.Lts as lts
 use Rattle.basics.proofs.pick32.Reads as pick32-reads
+use Rattle.basics.proofs.put.Reads as put-reads
+use Rattle.compact.proofs.is_marked.Reads as is-marked-reads
 
 abbrev Inv-loop : tie.InvT-loop
-Inv-loop work₀ n s₀ work s = Noting n work₀ work s
+Inv-loop work₀ n tally₀ s₀ work tally s = Tallying n work₀ work tally s
 
 abbrev μ-loop : tie.MeasureT-loop
-μ-loop work₀ n s₀ work s = n - s
+μ-loop work₀ n tally₀ s₀ work tally s = n - s
 
 -- src/lib.rt
 loop-holds : tie.Need-loop-holds Inv-loop μ-loop
-loop-holds c = search noting-none
+loop-holds c = search tallying-none
 
 -- src/lib.rt
-is-kept-requires : tie.Need-is-kept-requires Inv-loop μ-loop
-is-kept-requires c κs = search needs
+is-marked-requires : tie.Need-is-marked-requires Inv-loop μ-loop
+is-marked-requires c κs = search needs
 
 -- src/lib.rt
 pick32-requires : tie.Need-pick32-requires Inv-loop μ-loop
 pick32-requires c κs = search needs
+
+-- src/lib.rt
+add-next : tie.Need-add-next Inv-loop μ-loop
+add-next c = search next-fits
 
 -- src/lib.rt
 cast-put : tie.Need-cast-put Inv-loop μ-loop
@@ -35,6 +39,14 @@ cast-put c = search needs
 -- src/lib.rt
 add-put : tie.Need-add-put Inv-loop μ-loop
 add-put c = search needs
+
+-- src/lib.rt
+mul-put : tie.Need-mul-put Inv-loop μ-loop
+mul-put c = search twice-fits
+
+-- src/lib.rt
+add-put-2 : tie.Need-add-put-2 Inv-loop μ-loop
+add-put-2 c = search word-fits
 
 -- src/lib.rt
 put-requires : tie.Need-put-requires Inv-loop μ-loop
@@ -50,7 +62,7 @@ loop-less c = omega arith
 
 -- src/lib.rt
 loop-again : tie.Need-loop-again Inv-loop μ-loop
-loop-again c = search noting-more
+loop-again c = search tallying-more
 
 -- src/lib.rt
 same-length : tie.Need-same-length Inv-loop μ-loop
@@ -58,19 +70,22 @@ same-length c = search needs
 
 -- src/lib.rt
 returns : tie.Need-returns Inv-loop μ-loop
-returns c = search noting-all
+returns c = search tallying-all
 
-pub note-kept-spec : {M : Type 1} → statement M
-note-kept-spec =
+pub tally-kept-spec : {M : Type 1} → statement M
+tally-kept-spec =
     tie.close
     (tie.spec
     Inv-loop
     μ-loop
     loop-holds
-    is-kept-requires
+    is-marked-requires
     pick32-requires
+    add-next
     cast-put
     add-put
+    mul-put
+    add-put-2
     put-requires
     add-s
     loop-less
