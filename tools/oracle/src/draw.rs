@@ -1,5 +1,6 @@
 //! Drawn numbers and drawn tickets, fixed by a seed.
 
+use crate::paper;
 use crate::ticket::*;
 
 /// Splitmix64.
@@ -57,12 +58,14 @@ const INVERTERS: &[u8] = &[BUF, BUF, BUF, NOT, NOT, NOT, AND, OR, XOR, MUX, AIG]
 #[derive(Clone, Copy)]
 pub enum Request {
     GateCount,
+    Renumbering,
 }
 
 impl Request {
     pub fn from_name(name: &str) -> Option<Request> {
         match name {
             "2026-03" => Some(Request::GateCount),
+            "2026-05" => Some(Request::Renumbering),
             _ => None,
         }
     }
@@ -378,6 +381,7 @@ pub fn requested(draw: &mut Draw, request: Option<Request>) -> Vec<Record> {
     match request {
         None => accepted(draw),
         Some(Request::GateCount) => inverters(draw),
+        Some(Request::Renumbering) => scattered(draw),
     }
 }
 
@@ -385,6 +389,62 @@ fn inverters(draw: &mut Draw) -> Vec<Record> {
     let size = size(draw);
     let style = Style { mix: INVERTERS, widest: draw.pick(&[1, 4, 64]), ..Style::draw(draw) };
     styled(draw, size, style)
+}
+
+/// For request 2026-05: dropped records between kept ones, and operands far off on either side of their readers.
+fn scattered(draw: &mut Draw) -> Vec<Record> {
+    let size = match draw.below(100) {
+        0..2 => return spread_bench(draw),
+        2 => MOST_RECORDS,
+        3 => draw.within(121, MOST_RECORDS),
+        _ => size(draw).max(size(draw)),
+    };
+    let idle = size * draw.pick(&[10, 20, 30, 50]) / 100;
+    let style = Style {
+        mix: &GATES,
+        widest: draw.pick(&[1, 4, 4, 8, 64]),
+        lie: draw.pick(&[Lie::Forward, Lie::Backward, Lie::InputsLast, Lie::Anyhow, Lie::Anyhow, Lie::Anyhow]),
+        ..Style::draw(draw)
+    };
+    let records = styled(draw, size - idle, style);
+    strewn(draw, records, idle)
+}
+
+/// The ticket with so many gates more, which lie anywhere between its cells and of which it reads none.
+fn strewn(draw: &mut Draw, mut records: Vec<Record>, idle: usize) -> Vec<Record> {
+    let has_net = |slot: &usize| records[*slot].kind != OUTPUT;
+    let mut nets: Vec<u32> = (0..records.len()).filter(has_net).map(net_of).chain([ZERO, ONE, UNDEF]).collect();
+    let mut order: Vec<usize> = (0..records.len()).collect();
+    for slot in records.len()..records.len() + idle {
+        let mut gate = Record::new(draw.pick(&GATES), 0, 0, 0);
+        gate.operands_mut().for_each(|operand| *operand = draw.pick(&nets));
+        let place = draw.within(0, order.len());
+        let within_cell = order[place..].iter().take_while(|&&next| records[next].bit != 0).count();
+        order.insert(place + within_cell, slot);
+        nets.push(net_of(slot));
+        records.push(gate);
+    }
+    renumber(&records, &order)
+}
+
+/// A full ticket that takes all slots there are, or up to eight fewer, of which rewriting keeps two in three: each
+/// output reads an or of its own, anywhere among them.
+fn spread_bench(draw: &mut Draw) -> Vec<Record> {
+    let inputs = draw.within(24, 40);
+    // An or adds two cells.
+    let ors = (MOST_SLOTS - MOST_RECORDS) / 2 - draw.pick(&[0, 0, 0, 1, 4]);
+    let mut records = paper::ors(inputs as u32, usize::MAX);
+    draw.shuffle(&mut records[inputs..]);
+    records.truncate(inputs + ors);
+    let mut read: Vec<usize> = (inputs..inputs + ors).collect();
+    draw.shuffle(&mut read);
+    let outputs = read.into_iter().zip(0..).map(|(slot, label)| Record::new(OUTPUT, net_of(slot), label, 0));
+    records.extend(outputs.take(MOST_RECORDS - inputs - ors));
+    let mut order: Vec<usize> = (0..MOST_RECORDS).collect();
+    if draw.percent(50) {
+        draw.shuffle(&mut order);
+    }
+    renumber(&records, &order)
 }
 
 /// An accepted ticket torn, flipped or spliced; a few are accepted still.
