@@ -11,7 +11,8 @@ use oracle::draw::{Draw, Request};
 use oracle::list::{self, ASSIGNMENTS, Case};
 use oracle::{lister, ticket};
 
-const USAGE: &str = "usage: compare [--request 2026-03|2026-05] [--calls check,compact,merge,rewrite,levels] SEED COUNT";
+const USAGE: &str =
+    "usage: compare [--request 2026-03|2026-05] [--calls check,compact,merge,rewrite,levels] SEED COUNT";
 
 fn main() -> ExitCode {
     let arguments: Vec<String> = std::env::args().skip(1).collect();

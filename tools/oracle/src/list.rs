@@ -11,6 +11,8 @@ const ACCEPTED: usize = 10_000;
 const DAMAGED: usize = 2_000;
 /// Tickets with slices of other lengths than ample ones.
 const SCANT: usize = 400;
+/// Tickets drawn for request 2026-05.
+const RENUMBERED: usize = 200;
 pub const ASSIGNMENTS: usize = 3;
 
 /// A ticket with everything that is lent with it.
@@ -101,6 +103,12 @@ pub fn cases() -> Vec<Case> {
     for _ in 0..SCANT {
         let ticket = ticket::bytes(&accepted(&mut draw));
         cases.push(Case::scant(&mut draw, ticket));
+    }
+    // A seed of its own, so that these can become more without a change of what stands before.
+    let mut draw = Draw(SEED + 5);
+    for _ in 0..RENUMBERED {
+        let ticket = ticket::bytes(&requested(&mut draw, Some(Request::Renumbering)));
+        cases.push(Case::ample(&mut draw, ticket));
     }
     cases
 }
