@@ -26,7 +26,7 @@ use timing::{BLOCK, Trial};
 
 const ROUNDS: usize = 25;
 
-const USAGE: &str = "usage: bench [ROUNDS], or bench --builds ROUNDS NAME=LIBRARY ..";
+const USAGE: &str = "usage: bench [ROUNDS], or bench --builds ROUNDS NAME=LIBRARY,.. ..";
 
 fn main() -> ExitCode {
     let arguments: Vec<String> = env::args().skip(1).collect();

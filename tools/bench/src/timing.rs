@@ -21,13 +21,13 @@ pub const BLOCK: usize = 8;
 pub struct Figure(pub [f64; 4]);
 
 impl Figure {
-    pub fn of(mut samples: Vec<f64>) -> Figure {
+    fn of(mut samples: Vec<f64>) -> Figure {
         samples.sort_by(f64::total_cmp);
         Figure(array::from_fn(|quarters| samples[(samples.len() - 1) * quarters / 4]))
     }
 
     /// The figures' mean, for tickets that share a row.
-    pub fn mean(figures: &[Figure]) -> Figure {
+    fn mean(figures: &[Figure]) -> Figure {
         Figure(array::from_fn(|at| figures.iter().map(|figure| figure.0[at]).sum::<f64>() / figures.len() as f64))
     }
 
