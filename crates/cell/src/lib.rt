@@ -77,7 +77,7 @@ fn inside32(s: &[u8], i: usize) -> u32
     b0 + 256 * (b1 + 256 * (b2 + 256 * b3))
 }
 
-// Writers of the same.
+// Writers likewise, where all bytes lie in the slice.
 fn set_inside(s: &mut [u8], i: usize, v: u8)
     requires { ⌜ i < length (now s) ⌝ }
     ensures { λ _. ⌜ now (s .exit) ≡ set (now (s .entry)) i v ⌝ }

@@ -55,17 +55,17 @@ tallying-none n ws few long = record {
 }
 
 module _ (n : ℕ) (ws₀ ws : List ℕ) (t s : ℕ) (g : Tallying n ws₀ ws t s) where
-  tally-few : t ≤ 1024
-  tally-few =
+  so-far-few : t ≤ 1024
+  so-far-few =
       let few : n ≤ 1024 = g .few in
       let upto : s ≤ n = g .upto in
       omega (arith, g .number, tallied-count n ws₀ s, kept-few n ws₀ s)
 
   pub twice-fits : 2 * t < 4294967296
-  twice-fits = omega (arith, tally-few)
+  twice-fits = omega (arith, so-far-few)
 
   pub word-fits : (b : Bool) (k : ℕ) → k ≡ cond b 1 0 → 2 * t + k < 4294967296
-  word-fits b k f = omega (arith, tally-few, f, at-most-one b)
+  word-fits b k f = omega (arith, so-far-few, f, at-most-one b)
 
   pub next-fits : (b : Bool) (k : ℕ) → k ≡ cond b 1 0 → t + k < 4294967296
   next-fits b k f = omega (arith, word-fits b k f)
