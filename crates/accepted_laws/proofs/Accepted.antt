@@ -9,8 +9,8 @@ use Rattle.cell.specs.declared.Record.{Record}
 use Rattle.cell.specs.declared.Cell.{Cell}
 use Rattle.cell.specs.Records.{cellOf}
 use Rattle.loops.proofs.Rank.{rank}
-use Rattle.checking.specs.declared.Verdict.the-variants.{Pass}
-use Rattle.checking.specs.Refusals.{firstOf}
+use Rattle.refusals.specs.declared.Verdict.the-variants.{Pass}
+use Rattle.refusals.specs.Refusals.{firstOf}
 use Rattle.checking.specs.Checking.{netlistStages}
 use Rattle.netlist.specs.Shape.{visit, combReads}
 use Rattle.netlist.specs.Netlist.{cellIn}

@@ -12,8 +12,8 @@ use Rattle.cell.specs.declared.Record.{Record}
 use Rattle.cell.specs.declared.Cell.{Cell}
 use Rattle.cell.specs.declared.Cell.the-variants.{Not}
 use Rattle.cell.specs.Records.{cellOf}
-use Rattle.checking.specs.declared.Verdict.the-variants.{Pass}
-use Rattle.checking.specs.Refusals.{firstOf}
+use Rattle.refusals.specs.declared.Verdict.the-variants.{Pass}
+use Rattle.refusals.specs.Refusals.{firstOf}
 use Rattle.checking.specs.Checking.{netlistStages}
 use Rattle.netlist.specs.Shape.{visitMut, isSplittable}
 use Rattle.netlist.specs.Netlist.{cellIn}

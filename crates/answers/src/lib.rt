@@ -2,7 +2,7 @@
 use calls::Checked;
 use calls::Merged;
 use calls::Written;
-use checking::Refusal;
+use refusals::Refusal;
 ghost use mathlib.Core.Path.{_≡_};
 ghost use Rattle.calls.specs.Answers.{accepted, refused, checkFigures, writtenFigures, mergedFigures, wordsOf};
 
@@ -20,7 +20,7 @@ fn refuse(answer: &mut [u32; 8], x: Refusal) -> u32
     ensures { λ r. ⌜ r ≡ refused x .number ⌝ }
     ensures { λ _. ⌜ now (answer .exit) ≡ wordsOf (refused x) ⌝ }
 {
-    let f = checking::figures_of(x);
+    let f = refusals::figures_of(x);
     *answer = [f.place, 0, 0, 0, 0, 0, 0, 0];
     f.number
 }

@@ -15,10 +15,10 @@ use Rattle.merge.specs.Merge.{merge}
 use Rattle.rewrite.specs.Rewriter.{Lookup}
 use Rattle.rewrite.specs.Rewrite.{Run, run, slotsOf, rewrite}
 use Rattle.levels.specs.Evaluate.{inputSlots, outputLevels}
-use Rattle.checking.specs.declared.Refusal.the-variants.{SlotsExhausted, LevelCount, LevelValue, ShortReply}
-use Rattle.checking.specs.declared.Verdict.{Verdict}
-use Rattle.checking.specs.declared.Verdict.the-variants.{Pass, Refused}
-use Rattle.checking.specs.Refusals.{Stage, firstOf, slotBySlot}
+use Rattle.refusals.specs.declared.Refusal.the-variants.{SlotsExhausted, LevelCount, LevelValue, ShortReply}
+use Rattle.refusals.specs.declared.Verdict.{Verdict}
+use Rattle.refusals.specs.declared.Verdict.the-variants.{Pass, Refused}
+use Rattle.refusals.specs.Refusals.{Stage, firstOf, slotBySlot}
 use Rattle.checking.specs.Checking.{checkStages, gateCount}
 use Rattle.calls.specs.declared.Checked.{Checked}
 use Rattle.calls.specs.declared.Written.{Written}

@@ -1,5 +1,5 @@
 // The answers of the public calls.
-use checking::Refusal;
+use refusals::Refusal;
 
 // Checking: record count and gate count.
 pub enum Checked {

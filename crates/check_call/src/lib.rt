@@ -1,6 +1,6 @@
 // Checking: refusals 1 to 8, or the counts of an accepted ticket.
 use calls::Checked;
-use checking::Verdict;
+use refusals::Verdict;
 ghost use mathlib.Core.Path.{_≡_};
 ghost use Prim.Native.Nat.{_/_, _≤_};
 ghost use lib.ListN.{length};

@@ -12,11 +12,11 @@ use Rattle.cell.specs.declared.Record.{Record}
 use Rattle.cell.specs.Limits.{workWords, maxRecords}
 use Rattle.cell.specs.Records.{recordsOf, recordIn}
 use Rattle.loops.specs.Reach.{onLoop}
-use Rattle.checking.specs.declared.Refusal.{Refusal}
-use Rattle.checking.specs.declared.Verdict.the-variants.{Pass, Refused}
-use Rattle.checking.specs.Refusals.{Stage, firstOf}
+use Rattle.refusals.specs.declared.Refusal.{Refusal}
+use Rattle.refusals.specs.declared.Verdict.the-variants.{Pass, Refused}
+use Rattle.refusals.specs.Refusals.{Stage, firstOf}
 use Rattle.checking.specs.Checking.{unknownKind, reservedField, bitOutOfSequence, undrivenOperand, kindStage, fieldStage, bitStage, operandStage, loopStage, workStage, lengthStage, sizeStage, kindStages, fieldStages, bitStages, operandStages, recordStages, loopStages, sizeGroup, recordGroup, loopGroup, netlistStages, checkStages}
-use Rattle.checking.proofs.Stages.{passed-exactly, one-exactly, later-decides, earlier-decides, passes-both, both-exactly, first-passes, slots-exactly}
+use Rattle.refusals.proofs.Stages.{passed-exactly, one-exactly, later-decides, earlier-decides, passes-both, both-exactly, first-passes, slots-exactly}
 
 -- ---- the groups of one record
 module _ (rs : List Record) (s : ℕ) where

@@ -1,4 +1,3 @@
-pub mod Stages
 pub mod Groups
 pub mod Records
 pub mod Netlist

@@ -23,13 +23,13 @@ use Rattle.loops.specs.Reach.{onLoop}
 use Rattle.loops.specs.inner.Search.{Searchable, Finds}
 use Rattle.loops.proofs.Edges.{edge-field, edge-below}
 use Rattle.loops.proofs.Lowest.{IsLowest, lowest-on-loop}
-use Rattle.checking.specs.declared.Refusal.{Refusal}
-use Rattle.checking.specs.declared.Refusal.the-variants.{PartialRecord, TooManyRecords, Loop}
-use Rattle.checking.specs.declared.Verdict.{Verdict}
-use Rattle.checking.specs.declared.Verdict.the-variants.{Pass, Refused}
-use Rattle.checking.specs.Refusals.{firstOf, slotBySlot}
+use Rattle.refusals.specs.declared.Refusal.{Refusal}
+use Rattle.refusals.specs.declared.Refusal.the-variants.{PartialRecord, TooManyRecords, Loop}
+use Rattle.refusals.specs.declared.Verdict.{Verdict}
+use Rattle.refusals.specs.declared.Verdict.the-variants.{Pass, Refused}
+use Rattle.refusals.specs.Refusals.{firstOf, slotBySlot}
 use Rattle.checking.specs.Checking.{undriven, undrivenField, undrivenOperand, loopStage, workStage, lengthStage, sizeStage, recordStages, loopStages, sizeGroup, recordGroup, loopGroup, netlistStages, checkStages}
-use Rattle.checking.proofs.Stages.{first-refuses, first-passes, one-exactly, slots-exactly, slots-refused}
+use Rattle.refusals.proofs.Stages.{first-refuses, first-passes, one-exactly, slots-exactly, slots-refused}
 use Rattle.checking.proofs.Groups.{operand-exactly, loop-exactly, records-exactly, loops-exactly, netlist-exactly, records-decide, records-passed, sizes-decide, sizes-passed}
 
 either-false : (a b : Bool) → a || b ≡ false → (a ≡ false) × (b ≡ false)

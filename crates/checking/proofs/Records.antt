@@ -20,13 +20,13 @@ use Rattle.basics.specs.Lists.{tabulate}
 use Rattle.cell.specs.Records.{recordAt, recordsOf, recordIn}
 use Rattle.kinds.proofs.Laws.{gates-one}
 use Rattle.cell.proofs.Lists.{records-length, records-at}
-use Rattle.checking.specs.declared.Refusal.{Refusal}
-use Rattle.checking.specs.declared.Refusal.the-variants.{UnknownKind, ReservedField, BitOutOfSequence, UndrivenOperand}
-use Rattle.checking.specs.declared.Verdict.{Verdict}
-use Rattle.checking.specs.declared.Verdict.the-variants.{Pass, Refused}
-use Rattle.checking.specs.Refusals.{firstOf, slotBySlot}
+use Rattle.refusals.specs.declared.Refusal.{Refusal}
+use Rattle.refusals.specs.declared.Refusal.the-variants.{UnknownKind, ReservedField, BitOutOfSequence, UndrivenOperand}
+use Rattle.refusals.specs.declared.Verdict.{Verdict}
+use Rattle.refusals.specs.declared.Verdict.the-variants.{Pass, Refused}
+use Rattle.refusals.specs.Refusals.{firstOf, slotBySlot}
 use Rattle.checking.specs.Checking.{unknownKind, reservedField, follows, outOfSequence, bitOutOfSequence, undriven, undrivenField, undrivenOperand, kindStage, fieldStage, bitStage, operandStage, kindStages, fieldStages, bitStages, operandStages, recordStages, gateCount}
-use Rattle.checking.proofs.Stages.{first-refuses, slots-more, slots-refused}
+use Rattle.refusals.proofs.Stages.{first-refuses, slots-more, slots-refused}
 use Rattle.checking.proofs.Groups.{kind-exactly, field-exactly, bit-exactly, operand-exactly, record-exactly, kind-decides, field-decides, bit-decides, operand-decides}
 
 -- an operand that names a slot past the last record, and one that names a record

@@ -16,8 +16,8 @@ use Rattle.kinds.specs.Kinds.{numberOf, kindOf}
 use Rattle.cell.specs.Operands.{fieldOf, isOperand}
 use Rattle.cell.specs.Records.{recordsOf, recordIn}
 use Rattle.loops.specs.Reach.{onLoop}
-use Rattle.checking.specs.declared.Refusal.the-variants.{ShortWork, PartialRecord, TooManyRecords, UnknownKind, ReservedField, BitOutOfSequence, UndrivenOperand, Loop}
-use Rattle.checking.specs.Refusals.{Stage, slotBySlot}
+use Rattle.refusals.specs.declared.Refusal.the-variants.{ShortWork, PartialRecord, TooManyRecords, UnknownKind, ReservedField, BitOutOfSequence, UndrivenOperand, Loop}
+use Rattle.refusals.specs.Refusals.{Stage, slotBySlot}
 
 -- 4: kind 0 or above 9
 unfoldable pub unknownKind : Record → Bool

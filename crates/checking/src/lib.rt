@@ -1,7 +1,9 @@
-// Checking: refusals 1 to 8 of the paper's table, and the refusals of every call as one type.
+// Checking: refusals 1 to 8 of the paper's table.
 use cell::Record;
 use kinds::Use;
 use loops::Found;
+use refusals::Refusal;
+use refusals::Verdict;
 use value::Driver;
 use value::Net;
 use value::Slot;
@@ -10,61 +12,8 @@ ghost use mathlib.Core.Bool.{_&&_, _||_};
 ghost use Prim.Native.Nat.{_-_, _/_, _≤_, _<_};
 ghost use lib.ListN.{length, drop};
 ghost use Rattle.cell.specs.Records.{recordAt, recordsOf};
-ghost use Rattle.checking.specs.Refusals.{figuresAt, figures, firstOf, slotBySlot};
+ghost use Rattle.refusals.specs.Refusals.{firstOf, slotBySlot};
 ghost use Rattle.checking.specs.Checking.{unknownKind, unusedNotZero, reservedField, follows as followsOf, outOfSequence, undriven as undrivenOf, undrivenField, undrivenOperand, recordStages, netlistStages, checkStages, gateCount};
-
-// Why a call turns its input away.
-pub enum Refusal {
-    ShortWork,
-    PartialRecord,
-    TooManyRecords,
-    UnknownKind(Slot),
-    ReservedField(Slot),
-    BitOutOfSequence(Slot),
-    UndrivenOperand(Slot),
-    Loop(Slot),
-    SlotsExhausted,
-    LevelCount,
-    // The index of the level byte.
-    LevelValue(u32),
-    ShortReply,
-}
-
-pub enum Verdict {
-    Pass,
-    Refused(Refusal),
-}
-
-// A refusal's number and place in the paper's table.
-pub struct Figures {
-    pub number: u32,
-    pub place: u32,
-}
-
-fn numbered(number: u32, place: u32) -> Figures
-    ensures { λ r. ⌜ r ≡ figuresAt number place ⌝ }
-{
-    Figures { number, place }
-}
-
-pub fn figures_of(r: Refusal) -> Figures
-    ensures { λ x. ⌜ x ≡ figures r ⌝ }
-{
-    match r {
-        Refusal::ShortWork => numbered(1, 0),
-        Refusal::PartialRecord => numbered(2, 0),
-        Refusal::TooManyRecords => numbered(3, 0),
-        Refusal::UnknownKind(s) => numbered(4, s.0),
-        Refusal::ReservedField(s) => numbered(5, s.0),
-        Refusal::BitOutOfSequence(s) => numbered(6, s.0),
-        Refusal::UndrivenOperand(s) => numbered(7, s.0),
-        Refusal::Loop(s) => numbered(8, s.0),
-        Refusal::SlotsExhausted => numbered(9, 0),
-        Refusal::LevelCount => numbered(10, 0),
-        Refusal::LevelValue(i) => numbered(11, i),
-        Refusal::ShortReply => numbered(12, 0),
-    }
-}
 
 fn unknown_kind(r: Record) -> bool
     ensures { λ x. ⌜ x ≡ unknownKind r ⌝ }

@@ -1,6 +1,6 @@
 // Compacting: inputs, outputs and the whole cells that they reach.
 use calls::Written;
-use checking::Verdict;
+use refusals::Verdict;
 ghost use mathlib.Core.Path.{_≡_};
 ghost use lib.ListN.{length};
 ghost use Rattle.calls.specs.Work.{cleared};

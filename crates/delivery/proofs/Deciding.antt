@@ -6,13 +6,13 @@ use native.Mathlib.Omega.{arith}
 use lib.ListN.{length, drop}
 use borrow.Author.Tests.{lt-ltb, ltb-false}
 use Rattle.cell.specs.Records.{recordsOf}
-use Rattle.checking.specs.declared.Refusal.{Refusal}
-use Rattle.checking.specs.declared.Refusal.the-variants.{ShortWork}
-use Rattle.checking.specs.declared.Verdict.{Verdict}
-use Rattle.checking.specs.declared.Verdict.the-variants.{Pass, Refused}
-use Rattle.checking.specs.Refusals.{Stage, firstOf}
+use Rattle.refusals.specs.declared.Refusal.{Refusal}
+use Rattle.refusals.specs.declared.Refusal.the-variants.{ShortWork}
+use Rattle.refusals.specs.declared.Verdict.{Verdict}
+use Rattle.refusals.specs.declared.Verdict.the-variants.{Pass, Refused}
+use Rattle.refusals.specs.Refusals.{Stage, firstOf}
 use Rattle.checking.specs.Checking.{workStage, sizeGroup, netlistStages, checkStages}
-use Rattle.checking.proofs.Stages.{first-refuses, later-decides, earlier-decides}
+use Rattle.refusals.proofs.Stages.{first-refuses, later-decides, earlier-decides}
 use Rattle.checking.proofs.Groups.{CheckPasses, sizes-exactly, check-exactly, sizes-decide}
 use Rattle.calls.specs.Calls.{replyAfter}
 use Rattle.delivery.specs.inner.Delivery.{Decides, Passed}

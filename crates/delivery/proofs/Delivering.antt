@@ -14,10 +14,10 @@ use Rattle.design.specs.inner.Words.{netlistIn}
 use Rattle.compact.specs.inner.Words.{Keeps}
 use Rattle.compact.proofs.Tally.{all-is-count, all-few}
 use Rattle.compact.proofs.Compacting.{compact-length}
-use Rattle.checking.specs.declared.Refusal.the-variants.{ShortReply}
-use Rattle.checking.specs.declared.Verdict.the-variants as verdict
-use Rattle.checking.specs.Refusals.{firstOf}
-use Rattle.checking.proofs.Stages.{first-refuses, first-passes, no-stage}
+use Rattle.refusals.specs.declared.Refusal.the-variants.{ShortReply}
+use Rattle.refusals.specs.declared.Verdict.the-variants as verdict
+use Rattle.refusals.specs.Refusals.{firstOf}
+use Rattle.refusals.proofs.Stages.{first-refuses, first-passes, no-stage}
 use Rattle.calls.specs.declared.Written.{Written}
 use Rattle.calls.specs.declared.Written.the-variants.{Accepted, Refused}
 use Rattle.calls.specs.Calls.{put, room, encoded}

@@ -1,7 +1,7 @@
 // What the calls have in common: their shell, which checks the ticket and wipes the work slice; a netlist put into the reply.
 use calls::Written;
-use checking::Refusal;
-use checking::Verdict;
+use refusals::Refusal;
+use refusals::Verdict;
 ghost use mathlib.Core.Path.{_≡_};
 ghost use Prim.Native.Nat.{_≤_};
 ghost use lib.ListN.{length};

@@ -15,8 +15,8 @@ use Rattle.kinds.specs.Kinds.{kindOf}
 use Rattle.cell.specs.Records.{recordOf, recordIn, cellOf, cellRecord}
 use Rattle.cell.proofs.RoundTrips.{ZeroIf, WellFormed, record-back}
 use Rattle.loops.proofs.Rank.{rank}
-use Rattle.checking.specs.declared.Verdict.the-variants.{Pass}
-use Rattle.checking.specs.Refusals.{firstOf}
+use Rattle.refusals.specs.declared.Verdict.the-variants.{Pass}
+use Rattle.refusals.specs.Refusals.{firstOf}
 use Rattle.checking.specs.Checking.{unknownKind, unusedNotZero, reservedField, bitOutOfSequence, outOfSequence, netlistStages}
 use Rattle.netlist.specs.Shape.{visit}
 use Rattle.netlist.specs.Netlist.{Netlist, netlistOf, cellIn}

@@ -23,9 +23,9 @@ use Rattle.cell.specs.Bytes.{word16, word32, bytes16, bytes32}
 use Rattle.cell.specs.Records.{recordOf, recordAt, recordsOf, recordIn, bytesOf, cellOf, cellRecord}
 use Rattle.cell.proofs.Lists.{records-length, records-at}
 use Rattle.cell.proofs.RoundTrips.{cell-back, Ranged, bytes-back}
-use Rattle.checking.specs.Refusals.{firstOf}
+use Rattle.refusals.specs.Refusals.{firstOf}
 use Rattle.checking.specs.Checking.{netlistStages}
-use Rattle.checking.specs.declared.Verdict.the-variants.{Pass}
+use Rattle.refusals.specs.declared.Verdict.the-variants.{Pass}
 use Rattle.checking.proofs.Groups.{SizesPass, sizes-exactly, check-exactly}
 use Rattle.netlist.specs.Shape.{visit, visitMut, hasEffects}
 use Rattle.netlist.specs.Netlist.{Netlist, netlistOf, cellIn, encode, ticketOf}

@@ -15,12 +15,12 @@ use Rattle.cell.specs.declared.Cell.{Cell}
 use Rattle.cell.specs.Bytes.{word32}
 use Rattle.cell.specs.Records.{recordAt, recordsOf, cellRecord}
 use Rattle.loops.proofs.Rank.{rank}
-use Rattle.checking.specs.declared.Verdict.{Verdict}
-use Rattle.checking.specs.declared.Verdict.the-variants.{Pass, Refused}
-use Rattle.checking.specs.declared.Refusal.the-variants.{LevelCount, LevelValue}
-use Rattle.checking.specs.Refusals.{Stage, firstOf, slotBySlot}
+use Rattle.refusals.specs.declared.Verdict.{Verdict}
+use Rattle.refusals.specs.declared.Verdict.the-variants.{Pass, Refused}
+use Rattle.refusals.specs.declared.Refusal.the-variants.{LevelCount, LevelValue}
+use Rattle.refusals.specs.Refusals.{Stage, firstOf, slotBySlot}
 use Rattle.checking.specs.Checking.{checkStages}
-use Rattle.checking.proofs.Stages.{later-decides, passes-both}
+use Rattle.refusals.proofs.Stages.{later-decides, passes-both}
 use Rattle.netlist.specs.Shape.{visitMut}
 use Rattle.netlist.specs.Netlist.{Netlist, cellIn, encode}
 use Rattle.compact.specs.Compact.{compact}

@@ -22,7 +22,7 @@ use Rattle.cell.specs.Records.{recordsOf}
 use Rattle.basics.specs.Lists.{tabulate, those, has, All}
 use Rattle.basics.proofs.Tables.{tabulate-length, tabulate-at}
 use Rattle.loops.proofs.Rank.{rank as rankOf}
-use Rattle.checking.specs.declared.Verdict.the-variants.{Pass}
+use Rattle.refusals.specs.declared.Verdict.the-variants.{Pass}
 use Rattle.netlist.specs.Shape.{visitMut, hasEffects}
 use Rattle.netlist.specs.Netlist.{Netlist, cellIn, run, startOf, outputOf}
 use Rattle.order.specs.Orders.{iterCellsTopo}

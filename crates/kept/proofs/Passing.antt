@@ -21,8 +21,8 @@ use Rattle.cell.specs.Records.{recordOf, recordIn, cellRecord}
 use Rattle.basics.proofs.Tables.{tabulate-length, tabulate-at}
 use Rattle.loops.specs.Reach.{OnLoop}
 use Rattle.loops.proofs.Reach.{onLoop-false}
-use Rattle.checking.specs.declared.Verdict.the-variants.{Pass}
-use Rattle.checking.specs.Refusals.{firstOf}
+use Rattle.refusals.specs.declared.Verdict.the-variants.{Pass}
+use Rattle.refusals.specs.Refusals.{firstOf}
 use Rattle.checking.specs.Checking.{unknownKind, reservedField, bitOutOfSequence, undriven, undrivenField, undrivenOperand, netlistStages}
 use Rattle.checking.proofs.Groups.{RecordPasses, kind-exactly, field-exactly, bit-exactly, operand-exactly, records-exactly, loops-exactly, netlist-exactly}
 use Rattle.netlist.specs.Shape.{visit}

@@ -12,8 +12,8 @@ use Rattle.logic.specs.declared.Trit.the-variants.{Undef}
 use Rattle.cell.specs.Records.{recordAt, recordsOf, cellRecord}
 use Rattle.cell.proofs.Lists.{records-length, records-at}
 use Rattle.loops.proofs.Rank.{rank}
-use Rattle.checking.specs.declared.Verdict.the-variants.{Pass}
-use Rattle.checking.specs.Refusals.{firstOf}
+use Rattle.refusals.specs.declared.Verdict.the-variants.{Pass}
+use Rattle.refusals.specs.Refusals.{firstOf}
 use Rattle.checking.specs.Checking.{netlistStages}
 use Rattle.checking.proofs.Groups.{SizesPass, CheckPasses, sizes-exactly, check-exactly}
 use Rattle.netlist.specs.Netlist.{Netlist, cellIn}

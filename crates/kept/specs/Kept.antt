@@ -3,7 +3,7 @@ use mathlib.Core.Path.{_≡_}
 use mathlib.Core.List.{List}
 use Prim.Native.Nat.{ℕ, _<_, _≤_}
 use lib.ListN.{length, getD}
-use Rattle.checking.specs.declared.Verdict.the-variants.{Pass}
+use Rattle.refusals.specs.declared.Verdict.the-variants.{Pass}
 use Rattle.calls.specs.Calls.{checkVerdict, levelBytes, levelAnswer, levelReply}
 
 -- each element is a byte

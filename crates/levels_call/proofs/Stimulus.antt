@@ -11,10 +11,10 @@ use Rattle.netlist.specs.inner.Areas.{recordsIn}
 use Rattle.levels.specs.Evaluate.{inputSlots}
 use Rattle.levels.specs.Fold.{cellsIn, ofKind}
 use Rattle.levels.proofs.Slots.{input-slots}
-use Rattle.checking.specs.declared.Refusal.the-variants.{LevelCount, LevelValue}
-use Rattle.checking.specs.declared.Verdict.the-variants.{Pass, Refused}
-use Rattle.checking.specs.Refusals.{Stage, firstOf, slotBySlot}
-use Rattle.checking.proofs.Stages.{first-refuses, first-passes, no-stage, slots-none, slots-more, slots-refused}
+use Rattle.refusals.specs.declared.Refusal.the-variants.{LevelCount, LevelValue}
+use Rattle.refusals.specs.declared.Verdict.the-variants.{Pass, Refused}
+use Rattle.refusals.specs.Refusals.{Stage, firstOf, slotBySlot}
+use Rattle.refusals.proofs.Stages.{first-refuses, first-passes, no-stage, slots-none, slots-more, slots-refused}
 use Rattle.calls.specs.Calls.{stimulusStages}
 
 -- the stage of one byte

@@ -1,7 +1,7 @@
 // Levels of the outputs for a stimulus.
 use calls::Written;
-use checking::Refusal;
-use checking::Verdict;
+use refusals::Refusal;
+use refusals::Verdict;
 use value::Slot;
 ghost use mathlib.Core.Path.{_≡_};
 ghost use mathlib.Core.Bool.{cond};
@@ -11,7 +11,7 @@ ghost use Rattle.kinds.specs.Kinds.{numberOf};
 ghost use lib.ListN.{length};
 ghost use Rattle.netlist.specs.inner.Areas.{recordsIn};
 ghost use Rattle.levels.specs.Fold.{cellsIn, ofKind};
-ghost use Rattle.checking.specs.Refusals.{firstOf};
+ghost use Rattle.refusals.specs.Refusals.{firstOf};
 ghost use Rattle.calls.specs.Calls.{put, stimulusStages, levelAnswer, levelReply};
 ghost use Rattle.calls.specs.Work.{cleared};
 ghost use Rattle.delivery.specs.inner.Delivery.{Passed};

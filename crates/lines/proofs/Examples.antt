@@ -6,7 +6,7 @@ use Rattle.cell.specs.Bytes.{word16, word32, bytes16, bytes32}
 use Rattle.cell.specs.Records.{recordOf, recordAt, bytesOf}
 use Rattle.basics.specs.Lists.{joined}
 use Rattle.netlist.specs.Netlist.{ticketOf}
-use Rattle.checking.specs.declared.Refusal.the-variants.{Loop}
+use Rattle.refusals.specs.declared.Refusal.the-variants.{Loop}
 use Rattle.lines.specs.Ascii.{ascii}
 use Rattle.lines.specs.Decimal.{digitsIn, decimal}
 use Rattle.lines.specs.Lines.{spaced, recordLine, linesTo, linesOf, refusalLine}

@@ -4,8 +4,8 @@ use Prim.Native.Nat.{ℕ, zero, suc, _/_}
 use lib.ListN.{length}
 use Rattle.cell.specs.declared.Record.{Record}
 use Rattle.cell.specs.Records.{recordAt}
-use Rattle.checking.specs.declared.Refusal.{Refusal}
-use Rattle.checking.specs.Refusals.{figures}
+use Rattle.refusals.specs.declared.Refusal.{Refusal}
+use Rattle.refusals.specs.Refusals.{figures}
 use Rattle.lines.specs.Decimal.{decimal}
 use Rattle.lines.specs.Ascii.{ascii}
 

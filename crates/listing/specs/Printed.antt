@@ -1,8 +1,8 @@
 -- What the lister prints for a ticket (paper, "Tickets to try"). Assumes nothing: these are definitions.
 use mathlib.Core.List.{List}
 use Prim.Native.Nat.{ℕ}
-use Rattle.checking.specs.declared.Verdict.{Verdict}
-use Rattle.checking.specs.declared.Verdict.the-variants.{Pass, Refused}
+use Rattle.refusals.specs.declared.Verdict.{Verdict}
+use Rattle.refusals.specs.declared.Verdict.the-variants.{Pass, Refused}
 use Rattle.design.specs.Queue.{findNewCell}
 use Rattle.calls.specs.Calls.{rewriteVerdict, rewriteBytes}
 use Rattle.lines.specs.Lines.{linesOf, refusalLine}

@@ -14,9 +14,9 @@ use Rattle.compact.specs.Compact.{compact}
 use Rattle.design.specs.inner.Words.{netlistIn}
 use Rattle.merge.specs.Merge.{merging, mergedNetlist, merge}
 use Rattle.merge.specs.inner.Words.{Sequenced, MergesNetlist}
-use Rattle.checking.specs.declared.Verdict.{Verdict}
-use Rattle.checking.specs.declared.Verdict.the-variants as verdict
-use Rattle.checking.specs.Refusals.{firstOf}
+use Rattle.refusals.specs.declared.Verdict.{Verdict}
+use Rattle.refusals.specs.declared.Verdict.the-variants as verdict
+use Rattle.refusals.specs.Refusals.{firstOf}
 use Rattle.checking.specs.Checking.{netlistStages}
 use Rattle.calls.specs.declared.Written.{Written}
 use Rattle.calls.specs.declared.Merged.{Merged}

@@ -14,8 +14,8 @@ use Rattle.cell.specs.Records.{recordOf, recordIn}
 use Rattle.netlist.specs.Netlist.{netlistOf}
 use Rattle.basics.proofs.Tables.{map-at}
 use Rattle.merge.specs.inner.Words.{Sequenced}
-use Rattle.checking.specs.declared.Verdict.the-variants as verdict
-use Rattle.checking.specs.Refusals.{firstOf}
+use Rattle.refusals.specs.declared.Verdict.the-variants as verdict
+use Rattle.refusals.specs.Refusals.{firstOf}
 use Rattle.checking.specs.Checking.{follows, outOfSequence, bitOutOfSequence, netlistStages}
 use Rattle.checking.proofs.Groups.{bit-exactly, records-exactly, netlist-exactly}
 

@@ -1,7 +1,7 @@
 // Merging: equal cells made one, and the result compacted.
 use calls::Merged;
 use calls::Written;
-use checking::Verdict;
+use refusals::Verdict;
 ghost use mathlib.Core.Path.{_≡_};
 ghost use Prim.Native.Nat.{_/_};
 ghost use lib.ListN.{length};

@@ -19,8 +19,8 @@ use Rattle.cell.specs.Operands.{fieldOf, isOperand}
 use Rattle.cell.specs.Records.{recordOf, recordIn, cellOf}
 use Rattle.loops.specs.Reach.{OnLoop, onLoop}
 use Rattle.loops.proofs.Rank.{rank, rank-falls, no-loop-below}
-use Rattle.checking.specs.declared.Verdict.the-variants.{Pass}
-use Rattle.checking.specs.Refusals.{firstOf}
+use Rattle.refusals.specs.declared.Verdict.the-variants.{Pass}
+use Rattle.refusals.specs.Refusals.{firstOf}
 use Rattle.checking.specs.Checking.{unknownKind, reservedField, bitOutOfSequence, undriven, undrivenField, undrivenOperand, netlistStages}
 use Rattle.checking.proofs.Groups.{kind-exactly, field-exactly, bit-exactly, operand-exactly, records-exactly, loops-exactly, netlist-exactly}
 use Rattle.netlist.specs.Shape.{visit, combReads, isOutput}

@@ -7,10 +7,10 @@ use lib.ListN.{length}
 use borrow.Author.Tests.{ltb-false}
 use Rattle.cell.specs.Records.{recordsOf}
 use Rattle.loops.proofs.Rank.{rank}
-use Rattle.checking.specs.declared.Verdict.{Verdict}
-use Rattle.checking.specs.declared.Verdict.the-variants.{Pass}
+use Rattle.refusals.specs.declared.Verdict.{Verdict}
+use Rattle.refusals.specs.declared.Verdict.the-variants.{Pass}
 use Rattle.checking.specs.Checking.{checkStages}
-use Rattle.checking.proofs.Stages.{passes-both, passed-exactly}
+use Rattle.refusals.proofs.Stages.{passes-both, passed-exactly}
 use Rattle.netlist.specs.Netlist.{Netlist}
 use Rattle.design.specs.Queue.{findNewCell}
 use Rattle.merge.specs.Merge.{merge}

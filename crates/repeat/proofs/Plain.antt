@@ -9,7 +9,7 @@ use lib.ListN.{getD}
 use Rattle.cell.specs.declared.Record.{Record}
 use Rattle.cell.specs.Records.{recordsOf, recordOf}
 use Rattle.cell.proofs.Lists.{records-length, records-at}
-use Rattle.checking.specs.declared.Verdict.the-variants.{Pass}
+use Rattle.refusals.specs.declared.Verdict.the-variants.{Pass}
 use Rattle.netlist.specs.Netlist.{Netlist, cellIn}
 use Rattle.calls.specs.Calls.{decoded, checkVerdict}
 use Rattle.basics.proofs.Members.{all-at, none-any}

@@ -9,12 +9,12 @@ use lib.ListN.{length}
 use borrow.Author.Tests.{le-ltb, ltb-false}
 use Rattle.cell.specs.declared.Record.{Record}
 use Rattle.cell.specs.Records.{recordsOf}
-use Rattle.checking.specs.declared.Verdict.{Verdict}
-use Rattle.checking.specs.declared.Verdict.the-variants.{Pass}
-use Rattle.checking.specs.declared.Refusal.the-variants.{SlotsExhausted, ShortReply}
-use Rattle.checking.specs.Refusals.{Stage, firstOf}
+use Rattle.refusals.specs.declared.Verdict.{Verdict}
+use Rattle.refusals.specs.declared.Verdict.the-variants.{Pass}
+use Rattle.refusals.specs.declared.Refusal.the-variants.{SlotsExhausted, ShortReply}
+use Rattle.refusals.specs.Refusals.{Stage, firstOf}
 use Rattle.checking.specs.Checking.{workStage, sizeStage, netlistStages, checkStages}
-use Rattle.checking.proofs.Stages.{one-exactly, passes-both, group-out}
+use Rattle.refusals.proofs.Stages.{one-exactly, passes-both, group-out}
 use Rattle.netlist.specs.Netlist.{Netlist, encode}
 use Rattle.design.specs.Queue.{findNewCell}
 use Rattle.compact.proofs.Lists.{ticket-length}

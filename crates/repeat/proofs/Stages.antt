@@ -6,10 +6,10 @@ use Prim.Native.Nat.{ℕ, _%_}
 use lib.ListN.{length}
 use borrow.Author.Tests.{eq-eqb}
 use Rattle.cell.specs.Records.{recordsOf}
-use Rattle.checking.specs.declared.Verdict.the-variants.{Pass}
-use Rattle.checking.specs.Refusals.{Stage, firstOf}
+use Rattle.refusals.specs.declared.Verdict.the-variants.{Pass}
+use Rattle.refusals.specs.Refusals.{Stage, firstOf}
 use Rattle.checking.specs.Checking.{workStage, lengthStage, sizeStage, sizeGroup, netlistStages, checkStages}
-use Rattle.checking.proofs.Stages.{one-exactly, group-out}
+use Rattle.refusals.proofs.Stages.{one-exactly, group-out}
 
 -- checking, where the records are whole and pass: 1 and 3 remain
 pub checked-later : (words : ℕ) (t : List ℕ) → length t % 16 ≡ 0 → firstOf (netlistStages (recordsOf t)) ≡ Pass → (rest : List Stage)

@@ -8,8 +8,8 @@ use lib.ListN.{length, take}
 use Rattle.kinds.specs.declared.Sort.the-variants as sort
 use Rattle.kinds.specs.Kinds.{numberOf}
 use Rattle.cell.specs.Records.{recordsOf}
-use Rattle.checking.specs.declared.Verdict.{Verdict}
-use Rattle.checking.specs.Refusals.{firstOf}
+use Rattle.refusals.specs.declared.Verdict.{Verdict}
+use Rattle.refusals.specs.Refusals.{firstOf}
 use Rattle.checking.specs.Checking.{workStage, sizeStage}
 use Rattle.basics.specs.Lists.{anyOf}
 use Rattle.design.specs.Queue.{findNewCell}

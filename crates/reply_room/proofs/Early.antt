@@ -8,11 +8,11 @@ use lib.ListN.{length}
 use Rattle.cell.specs.declared.Record.{Record}
 use Rattle.cell.specs.declared.Cell.{Cell}
 use Rattle.cell.specs.Records.{recordsOf}
-use Rattle.checking.specs.declared.Verdict.{Verdict}
-use Rattle.checking.specs.declared.Verdict.the-variants.{Pass, Refused}
-use Rattle.checking.specs.Refusals.{Stage, figures, firstOf, slotBySlot}
+use Rattle.refusals.specs.declared.Verdict.{Verdict}
+use Rattle.refusals.specs.declared.Verdict.the-variants.{Pass, Refused}
+use Rattle.refusals.specs.Refusals.{Stage, figures, firstOf, slotBySlot}
 use Rattle.checking.specs.Checking.{kindStages, fieldStages, bitStages, operandStages, recordStages, loopStages, sizeGroup, recordGroup, loopGroup, netlistStages, checkStages}
-use Rattle.checking.proofs.Stages.{first-refuses, first-passes, later-decides, earlier-decides}
+use Rattle.refusals.proofs.Stages.{first-refuses, first-passes, later-decides, earlier-decides}
 use Rattle.calls.specs.Calls.{stimulusStages}
 
 -- each stage of a list gives a refusal below 12

@@ -12,12 +12,12 @@ use Rattle.logic.specs.declared.Trit.the-variants.{Undef}
 use Rattle.logic.specs.Levels.{byteOf}
 use Rattle.cell.specs.Records.{recordsOf}
 use Rattle.loops.proofs.Rank.{rank}
-use Rattle.checking.specs.declared.Refusal.the-variants.{SlotsExhausted}
-use Rattle.checking.specs.declared.Verdict.{Verdict}
-use Rattle.checking.specs.declared.Verdict.the-variants.{Pass, Refused}
-use Rattle.checking.specs.Refusals.{Stage, firstOf}
+use Rattle.refusals.specs.declared.Refusal.the-variants.{SlotsExhausted}
+use Rattle.refusals.specs.declared.Verdict.{Verdict}
+use Rattle.refusals.specs.declared.Verdict.the-variants.{Pass, Refused}
+use Rattle.refusals.specs.Refusals.{Stage, firstOf}
 use Rattle.checking.specs.Checking.{checkStages}
-use Rattle.checking.proofs.Stages.{first-refuses, first-passes, no-stage, passes-both}
+use Rattle.refusals.proofs.Stages.{first-refuses, first-passes, no-stage, passes-both}
 use Rattle.netlist.specs.Shape.{isOutput}
 use Rattle.netlist.specs.Netlist.{Netlist, cellIn, encode}
 use Rattle.design.specs.Queue.{findNewCell}

@@ -18,11 +18,11 @@ use Rattle.rewrite.specs.Rewrite.{run, slotsOf, rewrite}
 use Rattle.rewriter.specs.declared.Rewritten.{Rewritten}
 use Rattle.rewriter.specs.declared.Rewritten.the-variants.{To, Full}
 use Rattle.rewriter.specs.inner.Run.{RewritesTo, Rewrites}
-use Rattle.checking.specs.declared.Refusal.the-variants.{SlotsExhausted}
-use Rattle.checking.specs.declared.Verdict.the-variants as verdict
-use Rattle.checking.specs.Refusals.{Stage, firstOf}
+use Rattle.refusals.specs.declared.Refusal.the-variants.{SlotsExhausted}
+use Rattle.refusals.specs.declared.Verdict.the-variants as verdict
+use Rattle.refusals.specs.Refusals.{Stage, firstOf}
 use Rattle.checking.specs.Checking.{netlistStages}
-use Rattle.checking.proofs.Stages.{first-refuses, first-passes, no-stage}
+use Rattle.refusals.proofs.Stages.{first-refuses, first-passes, no-stage}
 use Rattle.calls.specs.declared.Written.{Written}
 use Rattle.calls.specs.declared.Written.the-variants as written
 use Rattle.calls.specs.Answers.{writtenBy}

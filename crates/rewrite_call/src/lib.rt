@@ -1,7 +1,7 @@
 // Rewriting: the rules on every gate bit, and the result compacted.
 use calls::Written;
-use checking::Refusal;
-use checking::Verdict;
+use refusals::Refusal;
+use refusals::Verdict;
 use rewriter::Rewritten;
 ghost use mathlib.Core.Path.{_≡_};
 ghost use lib.ListN.{length};

@@ -11,12 +11,12 @@ use borrow.Author.Tests.{ltb-false}
 use Rattle.logic.specs.Levels.{byteOf}
 use Rattle.cell.specs.Records.{recordsOf}
 use Rattle.loops.proofs.Rank.{rank}
-use Rattle.checking.specs.declared.Verdict.{Verdict}
-use Rattle.checking.specs.declared.Verdict.the-variants.{Pass}
-use Rattle.checking.specs.declared.Refusal.the-variants.{LevelCount, LevelValue, ShortReply}
-use Rattle.checking.specs.Refusals.{Stage, firstOf, slotBySlot}
+use Rattle.refusals.specs.declared.Verdict.{Verdict}
+use Rattle.refusals.specs.declared.Verdict.the-variants.{Pass}
+use Rattle.refusals.specs.declared.Refusal.the-variants.{LevelCount, LevelValue, ShortReply}
+use Rattle.refusals.specs.Refusals.{Stage, firstOf, slotBySlot}
 use Rattle.checking.specs.Checking.{checkStages}
-use Rattle.checking.proofs.Stages.{later-decides, passes-both, passed-exactly}
+use Rattle.refusals.proofs.Stages.{later-decides, passes-both, passed-exactly}
 use Rattle.netlist.specs.Netlist.{Netlist, netlistOf}
 use Rattle.order.specs.Orders.{bitDeps, topoSort}
 use Rattle.design.specs.Queue.{applied, findNewCell}

@@ -10,11 +10,11 @@ use lib.ListN.{length, take}
 use borrow.Author.Tests.{ltb-false, eq-eqb}
 use Rattle.cell.specs.Records.{recordsOf}
 use Rattle.loops.proofs.Rank.{rank}
-use Rattle.checking.specs.declared.Verdict.{Verdict}
-use Rattle.checking.specs.declared.Verdict.the-variants.{Pass}
-use Rattle.checking.specs.Refusals.{firstOf}
+use Rattle.refusals.specs.declared.Verdict.{Verdict}
+use Rattle.refusals.specs.declared.Verdict.the-variants.{Pass}
+use Rattle.refusals.specs.Refusals.{firstOf}
 use Rattle.checking.specs.Checking.{workStage, lengthStage, checkStages}
-use Rattle.checking.proofs.Stages.{first-passes, passes-both, passed-exactly}
+use Rattle.refusals.proofs.Stages.{first-passes, passes-both, passed-exactly}
 use Rattle.netlist.specs.Netlist.{Netlist, netlistOf}
 use Rattle.order.specs.Orders.{topoSort}
 use Rattle.design.specs.Queue.{findNewCell}

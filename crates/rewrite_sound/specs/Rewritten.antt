@@ -4,8 +4,8 @@ use mathlib.Core.List.{List, _∷_}
 use Prim.Native.Nat.{ℕ, _/_, _%_, _≤_}
 use lib.ListN.{length}
 use Rattle.cell.specs.Records.{recordsOf}
-use Rattle.checking.specs.declared.Verdict.the-variants.{Pass}
-use Rattle.checking.specs.Refusals.{Stage, firstOf}
+use Rattle.refusals.specs.declared.Verdict.the-variants.{Pass}
+use Rattle.refusals.specs.Refusals.{Stage, firstOf}
 use Rattle.checking.specs.Checking.{workStage, lengthStage, netlistStages}
 use Rattle.rewrite.specs.Rewriter.{Lookup}
 use Rattle.rewrite.specs.Rewrite.{slotsOf, rewrite}

@@ -11,8 +11,8 @@ use Rattle.cell.specs.declared.Record.{Record}
 use Rattle.cell.specs.declared.Cell.{Cell}
 use Rattle.cell.specs.Records.{cellOf}
 use Rattle.basics.specs.Lists.{tabulate, has}
-use Rattle.checking.specs.declared.Verdict.the-variants.{Pass}
-use Rattle.checking.specs.Refusals.{firstOf}
+use Rattle.refusals.specs.declared.Verdict.the-variants.{Pass}
+use Rattle.refusals.specs.Refusals.{firstOf}
 use Rattle.checking.specs.Checking.{netlistStages}
 use Rattle.netlist.specs.inner.Areas.{wordRecord, recordsIn, wordsIn, orderAt, Within, figuresAt, keysFrom, mixesAt, replacedAt, visitedAt}
 use Rattle.netlist.specs.Netlist.{Netlist, netlistOf}

@@ -8,9 +8,9 @@ use lib.ListN.{length, getD, set, take, length-append, length-set}
 use lib.Seq.{sets, length-sets, take-suc, take-all, length-take-le}
 use Rattle.cell.proofs.Laws.{sets-append}
 use Rattle.cell.specs.declared.Record.{Record}
-use Rattle.checking.specs.declared.Refusal.{Refusal}
-use Rattle.checking.specs.declared.Figures.{Figures}
-use Rattle.checking.specs.Refusals.{figures}
+use Rattle.refusals.specs.declared.Refusal.{Refusal}
+use Rattle.refusals.specs.declared.Figures.{Figures}
+use Rattle.refusals.specs.Refusals.{figures}
 use Rattle.io.specs.Counts.{Counts}
 use Rattle.io.specs.Digits.{digits, Fewest}
 use Rattle.lines.specs.Decimal.{decimal}

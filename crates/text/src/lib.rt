@@ -1,6 +1,6 @@
 // The lines that are printed. Each function puts something at a place of the text and answers the place behind it.
 use cell::Record;
-use checking::Refusal;
+use refusals::Refusal;
 ghost use Prim.Native.Nat.{_+_, _*_, _≤_};
 ghost use mathlib.Core.List.{_∷_, []};
 ghost use lib.ListN.{length};
@@ -62,7 +62,7 @@ pub fn put_refusal(text: &mut [u8], at: usize, x: Refusal) -> usize
     requires { ⌜ at + 80 ≤ length (now text) ⌝ }
     ensures { λ n. ⌜ Puts 80 (now (text .entry)) (now (text .exit)) at (refusalLine x) n ⌝ }
 {
-    let f = checking::figures_of(x);
+    let f = refusals::figures_of(x);
     let fields = [f.number, f.place];
     let n = put_all(text, at, b"refused");
     put_fields(text, n, &fields)

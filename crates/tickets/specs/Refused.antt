@@ -8,8 +8,8 @@ use Rattle.value.specs.Value.{slotAt}
 use Rattle.cell.specs.declared.Record.{Record}
 use Rattle.cell.specs.Records.{recordOf}
 use Rattle.netlist.specs.Netlist.{ticketOf}
-use Rattle.checking.specs.declared.Refusal.{Refusal}
-use Rattle.checking.specs.declared.Refusal.the-variants.{ShortWork, PartialRecord, TooManyRecords, UnknownKind, ReservedField, BitOutOfSequence, UndrivenOperand, Loop, SlotsExhausted, LevelCount, LevelValue, ShortReply}
+use Rattle.refusals.specs.declared.Refusal.{Refusal}
+use Rattle.refusals.specs.declared.Refusal.the-variants.{ShortWork, PartialRecord, TooManyRecords, UnknownKind, ReservedField, BitOutOfSequence, UndrivenOperand, Loop, SlotsExhausted, LevelCount, LevelValue, ShortReply}
 use Rattle.calls.specs.Work.{cleared}
 use Rattle.calls.specs.Answers.{Told, refused, wordsOf}
 use Rattle.tickets.specs.Starred.{Call, checking, compacting, merging, rewriting, levels, called, words, T2, T3, T8-further, T9, T10-one}

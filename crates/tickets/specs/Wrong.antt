@@ -10,7 +10,7 @@ use lib.Dec.{ltb}
 use lib.ListN.{length, take}
 use Rattle.cell.specs.declared.Record.{Record}
 use Rattle.cell.specs.Records.{recordOf}
-use Rattle.checking.specs.declared.Refusal.the-variants.{ShortReply}
+use Rattle.refusals.specs.declared.Refusal.the-variants.{ShortReply}
 use Rattle.netlist.specs.Shape.{hasEffects}
 use Rattle.netlist.specs.Netlist.{Netlist, cellIn, ticketOf}
 use Rattle.basics.specs.Lists.{slots, those}

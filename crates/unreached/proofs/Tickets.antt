@@ -7,7 +7,7 @@ use Prim.Native.Nat.{ℕ, _≤_}
 use Rattle.cell.specs.declared.Cell.{Cell}
 use Rattle.cell.specs.Records.{recordsOf}
 use Rattle.loops.proofs.Rank.{rank}
-use Rattle.checking.specs.declared.Verdict.the-variants.{Pass}
+use Rattle.refusals.specs.declared.Verdict.the-variants.{Pass}
 use Rattle.netlist.specs.Shape.{visit, hasEffects, isSplittable}
 use Rattle.netlist.specs.Netlist.{netlistOf, cellIn}
 use Rattle.order.specs.Orders.{topoSort}

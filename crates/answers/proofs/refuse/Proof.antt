@@ -4,7 +4,7 @@ use Rattle.answers.proofs.refuse.Statement.{statement}
 use Rattle.answers.proofs.refuse.Tie as tie
 use Rattle.answers.proofs.refuse.Reads as reads
 use Rattle.answers.proofs.refuse.Lts as lts
-use Rattle.checking.proofs.figures_of.Reads as figures-of-reads
+use Rattle.refusals.proofs.figures_of.Reads as figures-of-reads
 
 -- src/lib.rt
 figures-of-requires : tie.Need-figures-of-requires

@@ -3,10 +3,10 @@ use native.Mathlib.Omega.{arith}
 use Prim.Native.Nat.{_≤_, _-_}
 use mathlib.Core.Path.{_≡_}
 use Rattle.cell.specs.Records.{recordsOf}
-use Rattle.checking.specs.declared.Verdict.the-variants.{Pass}
-use Rattle.checking.specs.Refusals.{firstOf, slotBySlot}
+use Rattle.refusals.specs.declared.Verdict.the-variants.{Pass}
+use Rattle.refusals.specs.Refusals.{firstOf, slotBySlot}
 use Rattle.checking.specs.Checking.{recordStages}
-use Rattle.checking.proofs.Stages.{slots-none}
+use Rattle.refusals.proofs.Stages.{slots-none}
 use Rattle.checking.proofs.Records.{decided, passed, all-passed}
 use Rattle.checking.proofs.records_verdict.Statement.{statement}
 use Rattle.checking.proofs.records_verdict.Tie as tie

@@ -8,9 +8,9 @@ use Rattle.cell.specs.Records.{recordsOf}
 use Rattle.netlist.specs.inner.Areas.{recordsIn}
 use Rattle.netlist.specs.Netlist.{netlistOf}
 use Rattle.compact.specs.Compact.{compact}
-use Rattle.checking.specs.declared.Verdict.{Verdict}
-use Rattle.checking.specs.declared.Verdict.the-variants.{Pass}
-use Rattle.checking.specs.Refusals.{Stage, firstOf}
+use Rattle.refusals.specs.declared.Verdict.{Verdict}
+use Rattle.refusals.specs.declared.Verdict.the-variants.{Pass}
+use Rattle.refusals.specs.Refusals.{Stage, firstOf}
 use Rattle.checking.specs.Checking.{netlistStages, checkStages}
 use Rattle.calls.specs.declared.Written.{Written}
 use Rattle.calls.specs.Answers.{writtenBy}

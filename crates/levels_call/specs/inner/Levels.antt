@@ -11,7 +11,7 @@ use Rattle.kinds.specs.declared.Sort.the-variants as sort
 use Rattle.kinds.specs.Kinds.{numberOf}
 use Rattle.netlist.specs.inner.Areas.{wordRecord, recordsIn}
 use Rattle.levels.specs.Fold.{cellsIn, ofKind, levelsAt, bitOutputs}
-use Rattle.checking.specs.Refusals.{Stage}
+use Rattle.refusals.specs.Refusals.{Stage}
 use Rattle.calls.specs.declared.Written.{Written}
 use Rattle.calls.specs.Calls.{decoded, room, levelBytes, stimulusStages}
 use Rattle.delivery.specs.inner.Delivery.{Writes, Delivers}

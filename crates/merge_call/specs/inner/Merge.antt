@@ -8,7 +8,7 @@ use Rattle.cell.specs.Limits.{workWords}
 use Rattle.netlist.specs.inner.Areas.{recordsIn}
 use Rattle.netlist.specs.Netlist.{netlistOf}
 use Rattle.merge.specs.Merge.{merging, mergedNetlist, merge}
-use Rattle.checking.specs.declared.Verdict.{Verdict}
+use Rattle.refusals.specs.declared.Verdict.{Verdict}
 use Rattle.calls.specs.declared.Written.{Written}
 use Rattle.calls.specs.declared.Written.the-variants as written
 use Rattle.calls.specs.declared.Merged.{Merged}

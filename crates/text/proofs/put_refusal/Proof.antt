@@ -5,7 +5,7 @@ use Rattle.text.proofs.put_refusal.Statement.{statement}
 use Rattle.text.proofs.put_refusal.Tie as tie
 use Rattle.text.proofs.put_refusal.Reads as reads
 use Rattle.text.proofs.put_refusal.Lts as lts
-use Rattle.checking.proofs.figures_of.Reads as figures-of-reads
+use Rattle.refusals.proofs.figures_of.Reads as figures-of-reads
 use Rattle.text.proofs.put_all.Reads as put-all-reads
 use Rattle.text.proofs.put_fields.Reads as put-fields-reads
 

@@ -3,11 +3,11 @@ use mathlib.Core.Bool.{Bool, cond}
 use mathlib.Core.List.{List, [], _∷_, _++_}
 use Prim.Native.Nat.{ℕ, zero, suc}
 use Rattle.value.specs.declared.Slot.{Slot}
-use Rattle.checking.specs.declared.Refusal.{Refusal}
-use Rattle.checking.specs.declared.Refusal.the-variants.{ShortWork, PartialRecord, TooManyRecords, UnknownKind, ReservedField, BitOutOfSequence, UndrivenOperand, Loop, SlotsExhausted, LevelCount, LevelValue, ShortReply}
-use Rattle.checking.specs.declared.Verdict.{Verdict}
-use Rattle.checking.specs.declared.Verdict.the-variants.{Pass, Refused}
-use Rattle.checking.specs.declared.Figures.{Figures}
+use Rattle.refusals.specs.declared.Refusal.{Refusal}
+use Rattle.refusals.specs.declared.Refusal.the-variants.{ShortWork, PartialRecord, TooManyRecords, UnknownKind, ReservedField, BitOutOfSequence, UndrivenOperand, Loop, SlotsExhausted, LevelCount, LevelValue, ShortReply}
+use Rattle.refusals.specs.declared.Verdict.{Verdict}
+use Rattle.refusals.specs.declared.Verdict.the-variants.{Pass, Refused}
+use Rattle.refusals.specs.declared.Figures.{Figures}
 
 abbrev pub figuresAt : ℕ → ℕ → Figures
 figuresAt number place = record { number = number; place = place }

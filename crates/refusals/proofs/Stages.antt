@@ -8,11 +8,11 @@ use native.Mathlib.Omega.{arith}
 use native.Mathlib.Numerals.{add-one}
 use native.Mathlib.Decide.{decLt}
 use lib.ListN.{length, getD}
-use Rattle.checking.specs.declared.Refusal.{Refusal}
-use Rattle.checking.specs.declared.Refusal.the-variants.{ShortWork}
-use Rattle.checking.specs.declared.Verdict.{Verdict}
-use Rattle.checking.specs.declared.Verdict.the-variants.{Pass, Refused}
-use Rattle.checking.specs.Refusals.{Stage, firstOf, slotBySlot}
+use Rattle.refusals.specs.declared.Refusal.{Refusal}
+use Rattle.refusals.specs.declared.Refusal.the-variants.{ShortWork}
+use Rattle.refusals.specs.declared.Verdict.{Verdict}
+use Rattle.refusals.specs.declared.Verdict.the-variants.{Pass, Refused}
+use Rattle.refusals.specs.Refusals.{Stage, firstOf, slotBySlot}
 
 -- the first stage decides, or is passed over
 pub first-refuses : (st : Stage) (sts : List Stage) → st .0 ≡ true → firstOf (st ∷ sts) ≡ Refused (st .1)

@@ -1,11 +1,11 @@
-use Rattle.checking.specs.Refusals.{figures}
+use Rattle.refusals.specs.Refusals.{figures}
 use mathlib.Core.Path.{_∙_, sym, ap}
 use borrow.Author.Needs.{needs}
-use Rattle.checking.proofs.figures_of.Statement.{statement}
-use Rattle.checking.proofs.figures_of.Tie as tie
-use Rattle.checking.proofs.figures_of.Reads as reads
-use Rattle.checking.proofs.figures_of.Lts as lts
-use Rattle.checking.proofs.numbered.Reads as numbered-reads
+use Rattle.refusals.proofs.figures_of.Statement.{statement}
+use Rattle.refusals.proofs.figures_of.Tie as tie
+use Rattle.refusals.proofs.figures_of.Reads as reads
+use Rattle.refusals.proofs.figures_of.Lts as lts
+use Rattle.refusals.proofs.numbered.Reads as numbered-reads
 
 -- src/lib.rt
 enum-told : tie.Need-enum-told

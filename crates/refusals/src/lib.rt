@@ -1,0 +1,57 @@
+// The refusals of every call as one type, with their numbers and places.
+use value::Slot;
+ghost use mathlib.Core.Path.{_≡_};
+ghost use Rattle.refusals.specs.Refusals.{figuresAt, figures};
+
+// Why a call turns its input away.
+pub enum Refusal {
+    ShortWork,
+    PartialRecord,
+    TooManyRecords,
+    UnknownKind(Slot),
+    ReservedField(Slot),
+    BitOutOfSequence(Slot),
+    UndrivenOperand(Slot),
+    Loop(Slot),
+    SlotsExhausted,
+    LevelCount,
+    // The index of the level byte.
+    LevelValue(u32),
+    ShortReply,
+}
+
+pub enum Verdict {
+    Pass,
+    Refused(Refusal),
+}
+
+// A refusal's number and place in the paper's table.
+pub struct Figures {
+    pub number: u32,
+    pub place: u32,
+}
+
+fn numbered(number: u32, place: u32) -> Figures
+    ensures { λ r. ⌜ r ≡ figuresAt number place ⌝ }
+{
+    Figures { number, place }
+}
+
+pub fn figures_of(r: Refusal) -> Figures
+    ensures { λ x. ⌜ x ≡ figures r ⌝ }
+{
+    match r {
+        Refusal::ShortWork => numbered(1, 0),
+        Refusal::PartialRecord => numbered(2, 0),
+        Refusal::TooManyRecords => numbered(3, 0),
+        Refusal::UnknownKind(s) => numbered(4, s.0),
+        Refusal::ReservedField(s) => numbered(5, s.0),
+        Refusal::BitOutOfSequence(s) => numbered(6, s.0),
+        Refusal::UndrivenOperand(s) => numbered(7, s.0),
+        Refusal::Loop(s) => numbered(8, s.0),
+        Refusal::SlotsExhausted => numbered(9, 0),
+        Refusal::LevelCount => numbered(10, 0),
+        Refusal::LevelValue(i) => numbered(11, i),
+        Refusal::ShortReply => numbered(12, 0),
+    }
+}
