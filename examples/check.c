@@ -1,7 +1,5 @@
-/* Checks the ticket on standard input: `accepted RECORDS GATES`, or `refused NUMBER PLACE`. GATES leaves out bufs and
- * nots. */
-#include <stdio.h>
-#include "cabbagetier.h"
+/* Checks the ticket on standard input: `accepted RECORDS GATES`, or the refusal. GATES leaves out bufs and nots. */
+#include "refused.h"
 
 static uint8_t ticket[8208];
 static uint32_t work[16384];
@@ -11,9 +9,8 @@ int main(void)
     uint32_t answer[8];
     size_t len = fread(ticket, 1, sizeof ticket, stdin);
     uint32_t number = cabbagetier_check(ticket, len, work, 16384, answer);
-    if (number == 0)
-        printf("accepted %u %u\n", answer[1], answer[2]);
-    else
-        printf("refused %u %u\n", number, answer[0]);
-    return number != 0;
+    if (number != 0)
+        return refused(stdout, number, answer);
+    printf("accepted %u %u\n", answer[1], answer[2]);
+    return 0;
 }

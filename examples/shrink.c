@@ -1,8 +1,7 @@
-/* shrink compact|merge|rewrite: shrinks the ticket on standard input and writes the result to standard output;
- * `refused NUMBER PLACE` goes to standard error. */
-#include <stdio.h>
+/* shrink compact|merge|rewrite: shrinks the ticket on standard input and writes the result to standard output; a
+ * refusal goes to standard error. */
 #include <string.h>
-#include "cabbagetier.h"
+#include "refused.h"
 
 typedef uint32_t call(const uint8_t *, size_t, uint32_t *, size_t, uint8_t *, size_t, uint32_t[8]);
 
@@ -19,10 +18,8 @@ static int shrink(call *run)
     uint32_t answer[8];
     size_t len = fread(ticket, 1, sizeof ticket, stdin);
     uint32_t number = run(ticket, len, work, 16384, reply, sizeof reply, answer);
-    if (number != 0) {
-        fprintf(stderr, "refused %u %u\n", number, answer[0]);
-        return 1;
-    }
+    if (number != 0)
+        return refused(stderr, number, answer);
     fwrite(reply, 1, answer[1], stdout);
     return 0;
 }

@@ -16,7 +16,8 @@
  *   answer[0]  place of the refusal; 0 if accepted
  *   answer[1]  count: records for check, bytes written to the reply for the others; 0 if refused
  *   answer[2]  gate count for check, changed flag for merge; 0 otherwise and if refused
- *   answer[3] to answer[7]  0
+ *   answer[3]  the field that fails if the call returns 7: 1 for a, 2 for b, 3 for c; 0 otherwise
+ *   answer[4] to answer[7]  0
  *
  * `work` is lent for the call and may hold anything. A call asks for 16,384 words (refusal 1 otherwise). With as
  * many or more, its first 16,384 words are 0 at return, refused or not, and the others are as they were; a shorter
@@ -34,8 +35,8 @@
  * or flag not 0; 6 bit not 0, and the record is an output or an and-inverter, or none stands before it, or the one
  * before has another kind, or another bit than one less, or, in an input, another label, or, in a mux, another select;
  * 7 an operand is no constant and names no slot, or an output's; 8 a bit reaches itself through operands. 4 to 7: the
- * lowest faulty record decides, and within it the lowest number; the place is that record. 8: the place is the lowest
- * record on a loop. 9 rewriting needs more than 1,024 slots, the ticket's and each cell that it adds, also one that is
+ * lowest faulty record decides, and within it the lowest number; the place is that record. 7: of its fields the first
+ * that fails is told, in the order a, b, c. 8: the place is the lowest record on a loop. 9 rewriting needs more than 1,024 slots, the ticket's and each cell that it adds, also one that is
  * left out in the end; 10 levels given differ in number from input records; 11 a level byte above 2, the place its
  * index, the lowest such; 12 the reply is too short for the result. The place of all others is 0.
  * The first in the order of a call's line below decides.

@@ -21,7 +21,7 @@ fn refuse(answer: &mut [u32; 8], x: Refusal) -> u32
     ensures { λ _. ⌜ now (answer .exit) ≡ wordsOf (refused x) ⌝ }
 {
     let f = refusals::figures_of(x);
-    *answer = [f.place, 0, 0, 0, 0, 0, 0, 0];
+    *answer = [f.place, 0, 0, f.field, 0, 0, 0, 0];
     f.number
 }
 

@@ -27,19 +27,20 @@ abbrev pub mergedBy : Verdict → ℕ → Bool → Merged
 mergedBy Pass bytes changed = merged.Accepted bytes changed
 mergedBy (Refused r) bytes changed = merged.Refused r
 
--- number, place, count, and the gate count of checking or the changed flag of merging
+-- number, place, count, the gate count of checking or the changed flag of merging, and the field of refusal 7 (request 2026-06)
 pub record Told : Type 0 where
   pub number : ℕ
   pub place : ℕ
   pub count : ℕ
   pub extra : ℕ
+  pub field : ℕ
 
--- an accepted ticket has number 0 and place 0; a refusal has all but number and place 0
+-- an accepted ticket has number, place and field 0; a refusal has all but number and place 0, and 7 has its field besides (request 2026-06)
 abbrev pub accepted : ℕ → ℕ → Told
-accepted count extra = record { number = 0; place = 0; count = count; extra = extra }
+accepted count extra = record { number = 0; place = 0; count = count; extra = extra; field = 0 }
 
 abbrev pub refused : Refusal → Told
-refused r = record { number = figures r .number; place = figures r .place; count = 0; extra = 0 }
+refused r = record { number = figures r .number; place = figures r .place; count = 0; extra = 0; field = figures r .field }
 
 abbrev pub checkFigures : Checked → Told
 checkFigures (checked.Accepted records gates) = accepted records gates
@@ -54,8 +55,5 @@ mergedFigures (merged.Accepted bytes changed) = accepted bytes (cond changed 1 0
 mergedFigures (merged.Refused r) = refused r
 
 -- the eight answer words of include/cabbagetier.h; the number is what the function returns
-abbrev pub answerWords : ℕ → ℕ → ℕ → List ℕ
-answerWords place count extra = place ∷ count ∷ extra ∷ 0 ∷ 0 ∷ 0 ∷ 0 ∷ 0 ∷ []
-
 abbrev pub wordsOf : Told → List ℕ
-wordsOf told = answerWords (told .place) (told .count) (told .extra)
+wordsOf told = told .place ∷ told .count ∷ told .extra ∷ told .field ∷ 0 ∷ 0 ∷ 0 ∷ 0 ∷ []

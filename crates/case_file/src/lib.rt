@@ -27,9 +27,11 @@ fn head(text: &[u8], at: usize) -> Case {
             place: x[2],
             count: x[3],
             extra: x[4],
+            field: x[5],
+            spare: 0,
         },
         bytes: 0,
-        clear: n == 5,
+        clear: n == 5 || n == 6,
     }
 }
 

@@ -1,22 +1,45 @@
 -- The groups of the stages of checking, by their names: all stages pass exactly if each group does, the first group that refuses decides, and
 -- what it means that a group passes. A group that is put in is said here, and where that group itself is spoken of. Assumes nothing.
-use mathlib.Core.Path.{_≡_, _∙_}
-use mathlib.Core.Bool.{false, not}
-use mathlib.Core.Logic.{_↔_}
+use mathlib.Core.Path.{_≡_, refl, sym, _∙_, subst}
+use mathlib.Core.Bool.{Bool, true, false, not, false≢true}
+use mathlib.Core.Logic.{_↔_, ⊎-elim}
 use mathlib.Core.List.{List, _++_}
-use Prim.Native.Nat.{ℕ, _/_, _%_, _<_}
+use Prim.Native.Nat.{ℕ, _/_, _%_, _<_, _≤_}
 use native.Mathlib.Omega.{arith}
 use lib.Dec.{eqb, ltb}
 use lib.ListN.{length}
+use Rattle.basics.proofs.Truth.{either}
+use Rattle.value.specs.Value.{slotAt}
 use Rattle.cell.specs.declared.Record.{Record}
+use Rattle.cell.specs.Operands.{isOperand}
+use Rattle.cell.proofs.Operands.{operand-field}
 use Rattle.cell.specs.Limits.{workWords, maxRecords}
 use Rattle.cell.specs.Records.{recordsOf, recordIn}
 use Rattle.loops.specs.Reach.{onLoop}
 use Rattle.refusals.specs.declared.Refusal.{Refusal}
+use Rattle.refusals.specs.declared.Refusal.the-variants.{UndrivenOperand}
 use Rattle.refusals.specs.declared.Verdict.the-variants.{Pass, Refused}
-use Rattle.refusals.specs.Refusals.{Stage, firstOf}
-use Rattle.checking.specs.Checking.{unknownKind, reservedField, bitOutOfSequence, undrivenOperand, kindStage, fieldStage, bitStage, operandStage, loopStage, workStage, lengthStage, sizeStage, kindStages, fieldStages, bitStages, operandStages, recordStages, loopStages, sizeGroup, recordGroup, loopGroup, netlistStages, checkStages}
-use Rattle.refusals.proofs.Stages.{passed-exactly, one-exactly, later-decides, earlier-decides, passes-both, both-exactly, first-passes, slots-exactly}
+use Rattle.refusals.specs.Refusals.{Stage, figures, firstOf}
+use Rattle.checking.specs.Checking.{unknownKind, reservedField, bitOutOfSequence, undrivenField, kindStage, fieldStage, bitStage, operandStage, loopStage, workStage, lengthStage, sizeStage, kindStages, fieldStages, bitStages, operandStages, recordStages, loopStages, sizeGroup, recordGroup, loopGroup, netlistStages, checkStages}
+use Rattle.refusals.proofs.Stages.{passed-exactly, one-exactly, later-decides, earlier-decides, passes-both, both-exactly, first-refuses, first-passes, passes-not, refused-inj, slots-exactly, EachGives, both-give, slots-give, each-imp}
+
+-- ---- the fields of one record
+module _ (rs : List Record) (r : Record) where
+  -- a field that fails is a, b or c
+  pub undriven-operand : (f : ℕ) → undrivenField rs r f ≡ true → isOperand r f ≡ true
+  unfolding undrivenField
+  undriven-operand f e = either (isOperand r f) (λ o. o) (λ o. absurd (false≢true (sym (rw o) ∙ e)))
+
+  -- so that one does not fail is asked of these alone
+  driven-by : (f : ℕ) → (f ≡ 1 → undrivenField rs r 1 ≡ false) → (f ≡ 2 → undrivenField rs r 2 ≡ false) → (f ≡ 3 → undrivenField rs r 3 ≡ false)
+      → undrivenField rs r f ≡ false
+  driven-by f a b c = either (undrivenField rs r f) (λ e. ⊎-elim (at 1 a) (⊎-elim (at 2 b) (at 3 c)) (operand-field r f (undriven-operand f e))) (λ e. e)
+    where
+      at : (k : ℕ) → (f ≡ k → undrivenField rs r k ≡ false) → f ≡ k → undrivenField rs r f ≡ false
+      at k h q = subst (λ (j : ℕ). undrivenField rs r j ≡ false) (sym q) (h q)
+
+  pub fields-driven : undrivenField rs r 1 ≡ false → undrivenField rs r 2 ≡ false → undrivenField rs r 3 ≡ false → (f : ℕ) → undrivenField rs r f ≡ false
+  fields-driven a b c f = driven-by f (λ q. a) (λ q. b) (λ q. c)
 
 -- ---- the groups of one record
 module _ (rs : List Record) (s : ℕ) where
@@ -32,13 +55,74 @@ module _ (rs : List Record) (s : ℕ) where
   unfolding bitStages
   bit-exactly = one-exactly (bitStage rs s)
 
-  pub operand-exactly : (firstOf (operandStages rs s) ≡ Pass) ↔ (undrivenOperand rs (recordIn rs s) ≡ false)
+  pub operand-exactly : (firstOf (operandStages rs s) ≡ Pass) ↔ ((f : ℕ) → undrivenField rs (recordIn rs s) f ≡ false)
   unfolding operandStages
-  operand-exactly = one-exactly (operandStage rs s)
+  operand-exactly = (
+    λ e.
+        let p = passed-exactly (operandStages rs s) .0 e in
+        fields-driven rs (recordIn rs s) (p 0 (omega arith)) (p 1 (omega arith)) (p 2 (omega arith)),
+    λ p. first-passes (operandStage rs s 1) _ (p 1) ∙ first-passes (operandStage rs s 2) _ (p 2) ∙ one-exactly (operandStage rs s 3) .1 (p 3),
+  )
 
   pub loop-exactly : (firstOf (loopStages rs s) ≡ Pass) ↔ (onLoop rs s ≡ false)
   unfolding loopStages
   loop-exactly = one-exactly (loopStage rs s)
+
+-- ---- 7 by field
+-- a refusal is 7 at s, and names the least field that fails
+pub record NamesField (rs : List Record) (s : ℕ) (x : Refusal) : Type 0 where
+  pub field : ℕ
+  pub is : x ≡ UndrivenOperand (slotAt s) field
+  pub fails : undrivenField rs (recordIn rs s) field ≡ true
+  pub least : (g : ℕ) → g < field → undrivenField rs (recordIn rs s) g ≡ false
+
+module _ (rs : List Record) (s : ℕ) where
+  abbrev undriven-at : ℕ → Bool
+  undriven-at = undrivenField rs (recordIn rs s)
+
+  abbrev Names : ℕ → Type 0
+  Names f = firstOf (operandStages rs s) ≡ Refused (UndrivenOperand (slotAt s) f)
+
+  pub first-field : undrivenField rs (recordIn rs s) 1 ≡ true → Names 1
+  unfolding operandStages
+  first-field a = first-refuses (operandStage rs s 1) _ a
+
+  pub second-field : undrivenField rs (recordIn rs s) 1 ≡ false → undrivenField rs (recordIn rs s) 2 ≡ true → Names 2
+  unfolding operandStages
+  second-field a b = first-passes (operandStage rs s 1) _ a ∙ first-refuses (operandStage rs s 2) _ b
+
+  pub third-field : undrivenField rs (recordIn rs s) 1 ≡ false → undrivenField rs (recordIn rs s) 2 ≡ false → undrivenField rs (recordIn rs s) 3 ≡ true → Names 3
+  unfolding operandStages
+  third-field a b c = first-passes (operandStage rs s 1) _ a ∙ first-passes (operandStage rs s 2) _ b ∙ first-refuses (operandStage rs s 3) _ c
+
+  -- the group names the least field that fails
+  pub names-least : (f : ℕ) → undriven-at f ≡ true → ((g : ℕ) → g < f → undriven-at g ≡ false) → Names f
+  names-least f fails least = ⊎-elim (at 1 one) (⊎-elim (at 2 two) (at 3 three)) (operand-field (recordIn rs s) f (undriven-operand rs (recordIn rs s) f fails))
+    where
+      one : undriven-at 1 ≡ true → f ≡ 1 → Names 1
+      one h q = first-field h
+
+      two : undriven-at 2 ≡ true → f ≡ 2 → Names 2
+      two h q = second-field (least 1 (omega arith)) h
+
+      three : undriven-at 3 ≡ true → f ≡ 3 → Names 3
+      three h q = third-field (least 1 (omega arith)) (least 2 (omega arith)) h
+
+      at : (k : ℕ) → (undriven-at k ≡ true → f ≡ k → Names k) → f ≡ k → Names f
+      at k h q = subst Names (sym q) (h (subst (λ (j : ℕ). undriven-at j ≡ true) q fails) q)
+
+  -- and no other refusal
+  pub group-names : (x : Refusal) → firstOf (operandStages rs s) ≡ Refused x → NamesField rs s x
+  group-names x e = go (undriven-at 1) (undriven-at 2) (undriven-at 3) refl refl refl
+    where
+      named : (f : ℕ) → Names f → undriven-at f ≡ true → ((g : ℕ) → g < f → undriven-at g ≡ false) → NamesField rs s x
+      named f n h l = record { field = f; is = refused-inj x (UndrivenOperand (slotAt s) f) (sym e ∙ n); fails = h; least = l }
+
+      go : (a b c : Bool) → undriven-at 1 ≡ a → undriven-at 2 ≡ b → undriven-at 3 ≡ c → NamesField rs s x
+      go true b c p q r = named 1 (first-field p) p (λ g l. driven-by rs (recordIn rs s) g (λ i. absurd (omega arith)) (λ i. absurd (omega arith)) (λ i. absurd (omega arith)))
+      go false true c p q r = named 2 (second-field p q) q (λ g l. driven-by rs (recordIn rs s) g (λ i. p) (λ i. absurd (omega arith)) (λ i. absurd (omega arith)))
+      go false false true p q r = named 3 (third-field p q r) r (λ g l. driven-by rs (recordIn rs s) g (λ i. p) (λ i. q) (λ i. absurd (omega arith)))
+      go false false false p q r = absurd (passes-not x (sym (operand-exactly rs s .1 (fields-driven rs (recordIn rs s) p q r)) ∙ e))
 
 -- each group of a record passes
 pub record RecordPasses (rs : List Record) (s : ℕ) : Type 0 where
@@ -92,9 +176,13 @@ module _ (rs : List Record) (s : ℕ) where
         unfolding recordStages
         bit-decides e = earlier-decides upto-bits (operandStages rs s) x (later-decides upto-fields (bitStages rs s) fields-passed ∙ e)
 
-        pub operand-decides : firstOf (bitStages rs s) ≡ Pass → firstOf (operandStages rs s) ≡ Refused x → firstOf (recordStages rs s) ≡ Refused x
-        unfolding recordStages
-        operand-decides bits e = later-decides upto-bits (operandStages rs s) (both-exactly upto-fields (bitStages rs s) .1 (fields-passed, bits)) ∙ e
+  -- and behind groups that pass the last
+  pub operands-decide : firstOf (kindStages rs s) ≡ Pass → firstOf (fieldStages rs s) ≡ Pass → firstOf (bitStages rs s) ≡ Pass
+      → firstOf (recordStages rs s) ≡ firstOf (operandStages rs s)
+  unfolding recordStages
+  operands-decide kind fields bits =
+      later-decides upto-bits (operandStages rs s)
+      (both-exactly upto-fields (bitStages rs s) .1 (both-exactly (kindStages rs s) (fieldStages rs s) .1 (kind, fields), bits))
 
 -- ---- the groups of all records
 -- each group passes
@@ -164,3 +252,42 @@ module _ (words : ℕ) (t : List ℕ) where
   pub sizes-passed : firstOf (sizeGroup words t) ≡ Pass → firstOf (checkStages words t) ≡ firstOf (netlistStages (recordsOf t))
   unfolding checkStages
   sizes-passed e = later-decides (sizeGroup words t) (netlistStages (recordsOf t)) e
+
+-- ---- the numbers that a group gives
+abbrev pub AtMost : ℕ → Refusal → Type 0
+AtMost n x = figures x .number ≤ n
+
+module _ (rs : List Record) where
+  pub tests-give : (s : ℕ) → EachGives (AtMost 6) (kindStages rs s ++ fieldStages rs s ++ bitStages rs s)
+  unfolding kindStages fieldStages bitStages
+  tests-give s = (omega arith, (omega arith, (omega arith, tt)))
+
+  pub record-gives : (s : ℕ) → EachGives (AtMost 7) (recordStages rs s)
+  unfolding recordStages operandStages
+  record-gives s =
+      both-give (AtMost 7) (kindStages rs s ++ fieldStages rs s ++ bitStages rs s) (operandStages rs s)
+      (each-imp (AtMost 6) (AtMost 7) (λ x l. omega arith) (kindStages rs s ++ fieldStages rs s ++ bitStages rs s) (tests-give s))
+      (omega arith, (omega arith, (omega arith, tt)))
+
+  pub loops-give : EachGives (λ x. figures x .number ≡ 8) (loopGroup rs)
+  unfolding loopGroup loopStages
+  loops-give = slots-give (λ x. figures x .number ≡ 8) (loopStages rs) (λ s. (refl, tt)) (length rs)
+
+  pub netlist-gives : EachGives (AtMost 8) (netlistStages rs)
+  unfolding netlistStages recordGroup
+  netlist-gives =
+      both-give (AtMost 8) (recordGroup rs) (loopGroup rs)
+      (each-imp (AtMost 7) (AtMost 8) (λ x l. omega arith) (recordGroup rs) (slots-give (AtMost 7) (recordStages rs) record-gives (length rs)))
+      (each-imp (λ x. figures x .number ≡ 8) (AtMost 8) (λ x l. omega arith) (loopGroup rs) loops-give)
+
+module _ (words : ℕ) (t : List ℕ) where
+  pub sizes-give : EachGives (AtMost 3) (sizeGroup words t)
+  unfolding sizeGroup
+  sizes-give = (omega arith, (omega arith, (omega arith, tt)))
+
+  -- checking gives 1 to 8
+  pub check-gives : EachGives (AtMost 8) (checkStages words t)
+  unfolding checkStages
+  check-gives =
+      both-give (AtMost 8) (sizeGroup words t) (netlistStages (recordsOf t))
+      (each-imp (AtMost 3) (AtMost 8) (λ x l. omega arith) (sizeGroup words t) sizes-give) (netlist-gives (recordsOf t))

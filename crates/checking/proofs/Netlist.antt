@@ -1,7 +1,6 @@
 -- From the tests of single records to the search for loops, and its answer as stages. Assumes nothing.
 use mathlib.Core.Path.{_≡_, refl, sym, ap, _∙_, subst}
 use mathlib.Core.Bool.{Bool, true, false, cond, not, _&&_, _||_}
-use mathlib.Core.Logic.{⊎-elim}
 use mathlib.Core.List.{List, [], _∷_}
 use Prim.Native.Nat.{ℕ, _/_, _%_, _<_, _≤_}
 use native.Mathlib.Omega.{arith}
@@ -21,14 +20,14 @@ use Rattle.loops.specs.declared.Found.{Found}
 use Rattle.loops.specs.declared.Found.the-variants.{At, Nothing}
 use Rattle.loops.specs.Reach.{onLoop}
 use Rattle.loops.specs.inner.Search.{Searchable, Finds}
-use Rattle.loops.proofs.Edges.{edge-field, edge-below}
+use Rattle.loops.proofs.Edges.{edge-below}
 use Rattle.loops.proofs.Lowest.{IsLowest, lowest-on-loop}
 use Rattle.refusals.specs.declared.Refusal.{Refusal}
 use Rattle.refusals.specs.declared.Refusal.the-variants.{PartialRecord, TooManyRecords, Loop}
 use Rattle.refusals.specs.declared.Verdict.{Verdict}
 use Rattle.refusals.specs.declared.Verdict.the-variants.{Pass, Refused}
 use Rattle.refusals.specs.Refusals.{firstOf, slotBySlot}
-use Rattle.checking.specs.Checking.{undriven, undrivenField, undrivenOperand, loopStage, workStage, lengthStage, sizeStage, recordStages, loopStages, sizeGroup, recordGroup, loopGroup, netlistStages, checkStages}
+use Rattle.checking.specs.Checking.{undriven, undrivenField, loopStage, workStage, lengthStage, sizeStage, recordStages, loopStages, sizeGroup, recordGroup, loopGroup, netlistStages, checkStages}
 use Rattle.refusals.proofs.Stages.{first-refuses, first-passes, one-exactly, slots-exactly, slots-refused}
 use Rattle.checking.proofs.Groups.{operand-exactly, loop-exactly, records-exactly, loops-exactly, netlist-exactly, records-decide, records-passed, sizes-decide, sizes-passed}
 
@@ -56,19 +55,10 @@ module _ (rs : List Record) (r : Record) (f : ℕ) (x : Slot) where
   unfolding undrivenField edgeAt isCombEdge
   field-inside g e = tight (isOperand r f) (driver (netAt (fieldOf r f))) e g
 
-  operand-inside : undrivenOperand rs r ≡ false → edgeAt r f ≡ To x → x .0 < length rs
-  unfolding undrivenOperand
-  operand-inside g e =
-      let g₁ : (undrivenField rs r 1 ≡ false) × (undrivenField rs r 2 || undrivenField rs r 3 ≡ false) = either-false (undrivenField rs r 1) _ g in
-      let g₂ : (undrivenField rs r 2 ≡ false) × (undrivenField rs r 3 ≡ false) = either-false (undrivenField rs r 2) _ (g₁ .1) in
-      let at : (k : ℕ) → undrivenField rs r k ≡ false → f ≡ k → x .0 < length rs =
-      λ k h q. field-inside (subst (λ (j : ℕ). undrivenField rs r j ≡ false) (sym q) h) e in
-      ⊎-elim (at 1 (g₁ .0)) (⊎-elim (at 2 (g₂ .0)) (at 3 (g₂ .1))) (edge-field r f x e)
-
 -- where the records pass, every edge leads to a record
 edges-inside : (rs : List Record) → firstOf (recordGroup rs) ≡ Pass → (s f : ℕ) (x : Slot) → edgeAt (recordIn rs s) f ≡ To x → x .0 < length rs
 edges-inside rs p s f x e =
-    operand-inside rs (recordIn rs s) f x (operand-exactly rs s .0 (records-exactly rs .0 p s (edge-below rs s f x e) .operands)) e
+    field-inside rs (recordIn rs s) f x (operand-exactly rs s .0 (records-exactly rs .0 p s (edge-below rs s f x e) .operands) f) e
 
 -- 8: the lowest slot on a loop, as the stages have it
 module _ (rs : List Record) where

@@ -25,9 +25,9 @@ use Rattle.refusals.specs.declared.Refusal.the-variants.{UnknownKind, ReservedF
 use Rattle.refusals.specs.declared.Verdict.{Verdict}
 use Rattle.refusals.specs.declared.Verdict.the-variants.{Pass, Refused}
 use Rattle.refusals.specs.Refusals.{firstOf, slotBySlot}
-use Rattle.checking.specs.Checking.{unknownKind, reservedField, follows, outOfSequence, bitOutOfSequence, undriven, undrivenField, undrivenOperand, kindStage, fieldStage, bitStage, operandStage, kindStages, fieldStages, bitStages, operandStages, recordStages, gateCount}
+use Rattle.checking.specs.Checking.{unknownKind, reservedField, follows, outOfSequence, bitOutOfSequence, undriven, undrivenField, kindStage, fieldStage, bitStage, kindStages, fieldStages, bitStages, operandStages, recordStages, gateCount}
 use Rattle.refusals.proofs.Stages.{first-refuses, slots-more, slots-refused}
-use Rattle.checking.proofs.Groups.{kind-exactly, field-exactly, bit-exactly, operand-exactly, record-exactly, kind-decides, field-decides, bit-decides, operand-decides}
+use Rattle.checking.proofs.Groups.{fields-driven, kind-exactly, field-exactly, bit-exactly, operand-exactly, first-field, second-field, third-field, kind-decides, field-decides, bit-decides, operands-decide}
 
 -- an operand that names a slot past the last record, and one that names a record
 module _ (t : List ℕ) (n : ℕ) (d : Driver) (s : Slot) (e : n ≡ length t / 16) (q : d ≡ driven.Cell s) where
@@ -58,20 +58,6 @@ module _ (rs : List Record) (r : Record) where
     unfolding undrivenField
     field-other e = rw (← b-is, e)
 
-  module _ (x : Bool) (x-is : x ≡ undrivenField rs r 1) where
-    pub operand-a : x ≡ true → true ≡ undrivenOperand rs r
-    unfolding undrivenOperand
-    operand-a e = rw (← x-is, e)
-
-    module _ (x-no : x ≡ false) (y : Bool) (y-is : y ≡ undrivenField rs r 2) where
-      pub operand-b : y ≡ true → true ≡ undrivenOperand rs r
-      unfolding undrivenOperand
-      operand-b e = rw (← x-is, x-no, ← y-is, e)
-
-      pub operand-c : y ≡ false → (z : Bool) → z ≡ undrivenField rs r 3 → z ≡ undrivenOperand rs r
-      unfolding undrivenOperand
-      operand-c e z z-is = rw (← x-is, x-no, ← y-is, e) z-is
-
 -- the four groups of a record, a test each, in their order
 module _ (t : List ℕ) (n : ℕ) (s : Slot) (e : n ≡ length t / 16) (h : s .0 < n) (r : Record) (q : r ≡ recordAt t (s .0)) where
   abbrev rs : List Record
@@ -79,6 +65,27 @@ module _ (t : List ℕ) (n : ℕ) (s : Slot) (e : n ≡ length t / 16) (h : s .0
 
   here : recordIn rs (s .0) ≡ r
   here = records-at t (s .0) (omega arith) ∙ sym q
+
+  -- the operands, field by field
+  tested : (f : ℕ) (x b : Bool) → x ≡ undrivenField rs r f → x ≡ b → undrivenField rs (recordIn rs (s .0)) f ≡ b
+  tested f x b x-is e = ap (λ (q : Record). undrivenField rs q f) here ∙ sym x-is ∙ e
+
+  module _ (x : Bool) (x-is : x ≡ undrivenField (recordsOf t) r 1) where
+    pub refuses-a : x ≡ true → Refused (UndrivenOperand s 1) ≡ firstOf (operandStages (recordsOf t) (s .0))
+    refuses-a e = sym (first-field rs (s .0) (tested 1 x true x-is e))
+
+    module _ (x-no : x ≡ false) (y : Bool) (y-is : y ≡ undrivenField (recordsOf t) r 2) where
+      pub refuses-b : y ≡ true → Refused (UndrivenOperand s 2) ≡ firstOf (operandStages (recordsOf t) (s .0))
+      refuses-b e = sym (second-field rs (s .0) (tested 1 x false x-is x-no) (tested 2 y true y-is e))
+
+      module _ (y-no : y ≡ false) (z : Bool) (z-is : z ≡ undrivenField (recordsOf t) r 3) where
+        pub refuses-c : z ≡ true → Refused (UndrivenOperand s 3) ≡ firstOf (operandStages (recordsOf t) (s .0))
+        refuses-c e = sym (third-field rs (s .0) (tested 1 x false x-is x-no) (tested 2 y false y-is y-no) (tested 3 z true z-is e))
+
+        pub all-driven : z ≡ false → Pass ≡ firstOf (operandStages (recordsOf t) (s .0))
+        all-driven e =
+            sym (operand-exactly rs (s .0) .1
+            (fields-driven rs (recordIn rs (s .0)) (tested 1 x false x-is x-no) (tested 2 y false y-is y-no) (tested 3 z false z-is e)))
 
   module _ (x : Bool) (x-is : x ≡ unknownKind r) where
     pub refuses-4 : x ≡ true → Refused (UnknownKind s) ≡ firstOf (recordStages (recordsOf t) (s .0))
@@ -107,22 +114,8 @@ module _ (t : List ℕ) (n : ℕ) (s : Slot) (e : n ≡ length t / 16) (h : s .0
         refuses-6 f =
             sym (bit-decides rs (s .0) (BitOutOfSequence s) kind-passed fields-passed (first-refuses (bitStage rs (s .0)) [] (in-sequence ∙ f)))
 
-        module _ (z-no : z ≡ false) (w : Bool) (w-is : w ≡ undrivenOperand (recordsOf t) r) where
-          bits-passed : firstOf (bitStages rs (s .0)) ≡ Pass
-          bits-passed = bit-exactly rs (s .0) .1 (in-sequence ∙ z-no)
-
-          driven-as : undrivenOperand rs (recordIn rs (s .0)) ≡ w
-          driven-as = ap (undrivenOperand rs) here ∙ sym w-is
-
-          pub refuses-7 : w ≡ true → Refused (UndrivenOperand s) ≡ firstOf (recordStages (recordsOf t) (s .0))
-          unfolding operandStages
-          refuses-7 f =
-              sym (operand-decides rs (s .0) (UndrivenOperand s) kind-passed fields-passed bits-passed (first-refuses (operandStage rs (s .0)) [] (driven-as ∙ f)))
-
-          pub refuses-none : w ≡ false → Pass ≡ firstOf (recordStages (recordsOf t) (s .0))
-          refuses-none f =
-              sym (record-exactly rs (s .0) .1
-              (record { kind = kind-passed; fields = fields-passed; bits = bits-passed; operands = operand-exactly rs (s .0) .1 (driven-as ∙ f) }))
+        pub operands-left : z ≡ false → (v : Verdict) → v ≡ firstOf (operandStages (recordsOf t) (s .0)) → v ≡ firstOf (recordStages (recordsOf t) (s .0))
+        operands-left z-no v v-is = v-is ∙ sym (operands-decide rs (s .0) kind-passed fields-passed (bit-exactly rs (s .0) .1 (in-sequence ∙ z-no)))
 
 -- the loop over the records
 module _ (t : List ℕ) (n s : ℕ) (l : s < n) (e : Pass ≡ firstOf (slotBySlot (recordStages (recordsOf t)) s)) (v : Verdict) (v-is : v ≡ firstOf (recordStages (recordsOf t) s)) where

@@ -52,11 +52,9 @@ abbrev pub undriven : List Record → Driver → Bool
 undriven rs (driven.Const t) = false
 undriven rs (driven.Cell s) = not (ltb (s .0) (length rs)) || eqb (recordIn rs (s .0) .kind) (numberOf sort.Output)
 
+-- 7 by field, 1 for a, 2 for b, 3 for c: it holds an operand, whose net is such. No other number is a field, so none other fails
 unfoldable pub undrivenField : List Record → Record → ℕ → Bool
 undrivenField rs r f = isOperand r f && undriven rs (driver (netAt (fieldOf r f)))
-
-unfoldable pub undrivenOperand : List Record → Record → Bool
-undrivenOperand rs r = undrivenField rs r 1 || (undrivenField rs r 2 || undrivenField rs r 3)
 
 -- the stages of one record
 abbrev pub kindStage : List Record → ℕ → Stage
@@ -68,8 +66,8 @@ fieldStage rs s = (reservedField (recordIn rs s), ReservedField (slotAt s))
 abbrev pub bitStage : List Record → ℕ → Stage
 bitStage rs s = (bitOutOfSequence rs s, BitOutOfSequence (slotAt s))
 
-abbrev pub operandStage : List Record → ℕ → Stage
-operandStage rs s = (undrivenOperand rs (recordIn rs s), UndrivenOperand (slotAt s))
+abbrev pub operandStage : List Record → ℕ → ℕ → Stage
+operandStage rs s f = (undrivenField rs (recordIn rs s) f, UndrivenOperand (slotAt s) f)
 
 abbrev pub loopStage : List Record → ℕ → Stage
 loopStage rs s = (onLoop rs s, Loop (slotAt s))
@@ -97,9 +95,9 @@ fieldStages rs s = fieldStage rs s ∷ []
 unfoldable pub bitStages : List Record → ℕ → List Stage
 bitStages rs s = bitStage rs s ∷ []
 
--- 7 of one record
+-- 7 of one record: the first field that fails, in the order a, b, c (request 2026-06)
 unfoldable pub operandStages : List Record → ℕ → List Stage
-operandStages rs s = operandStage rs s ∷ []
+operandStages rs s = operandStage rs s 1 ∷ operandStage rs s 2 ∷ operandStage rs s 3 ∷ []
 
 -- 4 to 7 of one record
 unfoldable pub recordStages : List Record → ℕ → List Stage

@@ -13,7 +13,7 @@ ghost use Prim.Native.Nat.{_-_, _/_, _≤_, _<_};
 ghost use lib.ListN.{length, drop};
 ghost use Rattle.cell.specs.Records.{recordAt, recordsOf};
 ghost use Rattle.refusals.specs.Refusals.{firstOf, slotBySlot};
-ghost use Rattle.checking.specs.Checking.{unknownKind, unusedNotZero, reservedField, follows as followsOf, outOfSequence, undriven as undrivenOf, undrivenField, undrivenOperand, recordStages, netlistStages, checkStages, gateCount};
+ghost use Rattle.checking.specs.Checking.{unknownKind, unusedNotZero, reservedField, follows as followsOf, outOfSequence, undriven as undrivenOf, undrivenField, operandStages, recordStages, netlistStages, checkStages, gateCount};
 
 fn unknown_kind(r: Record) -> bool
     ensures { λ x. ⌜ x ≡ unknownKind r ⌝ }
@@ -95,19 +95,6 @@ fn undriven_field(t: &[u8], n: u32, r: Record, f: u32) -> bool
     false
 }
 
-fn undriven_operand(t: &[u8], n: u32, r: Record) -> bool
-    requires { ⌜ n ≡ length (now t) / 16 ⌝ }
-    ensures { λ x. ⌜ x ≡ undrivenOperand (recordsOf (now (t .entry))) r ⌝ }
-{
-    if undriven_field(t, n, r, 1) {
-        return true;
-    }
-    if undriven_field(t, n, r, 2) {
-        return true;
-    }
-    undriven_field(t, n, r, 3)
-}
-
 // The record before a slot; for slot 0, its own.
 fn record_before(t: &[u8], s: Slot) -> Record
     requires { ⌜ s .0 < length (now t) / 16 ⌝ }
@@ -118,6 +105,25 @@ fn record_before(t: &[u8], s: Slot) -> Record
         return cell::record_at(t, Slot(0));
     }
     cell::record_at(t, Slot(i - 1))
+}
+
+// 7 of one record: the first of its fields that fails.
+fn operand_verdict(t: &[u8], n: u32, s: Slot, r: Record) -> Verdict
+    requires { ⌜ n ≡ length (now t) / 16 ⌝ }
+    requires { ⌜ s .0 < n ⌝ }
+    requires { ⌜ r ≡ recordAt (now t) (s .0) ⌝ }
+    ensures { λ v. ⌜ v ≡ firstOf (operandStages (recordsOf (now (t .entry))) (s .0)) ⌝ }
+{
+    if undriven_field(t, n, r, 1) {
+        return Verdict::Refused(Refusal::UndrivenOperand(s, 1));
+    }
+    if undriven_field(t, n, r, 2) {
+        return Verdict::Refused(Refusal::UndrivenOperand(s, 2));
+    }
+    if undriven_field(t, n, r, 3) {
+        return Verdict::Refused(Refusal::UndrivenOperand(s, 3));
+    }
+    Verdict::Pass
 }
 
 // 4 to 7 of one record.
@@ -136,10 +142,7 @@ fn record_verdict(t: &[u8], n: u32, s: Slot) -> Verdict
     if out_of_sequence(s, record_before(t, s), r) {
         return Verdict::Refused(Refusal::BitOutOfSequence(s));
     }
-    if undriven_operand(t, n, r) {
-        return Verdict::Refused(Refusal::UndrivenOperand(s));
-    }
-    Verdict::Pass
+    operand_verdict(t, n, s, r)
 }
 
 // 4 to 7: the lowest faulty record decides.

@@ -16,7 +16,7 @@ use Rattle.loops.specs.Reach.{stepBack, reachingIn, reaches, onLoop}
 use Rattle.refusals.specs.declared.Verdict.{Verdict}
 use Rattle.refusals.specs.declared.Verdict.the-variants.{Pass, Refused}
 use Rattle.refusals.specs.Refusals.{figures, firstOf, slotBySlot}
-use Rattle.checking.specs.Checking.{unknownKind, reservedField, follows, outOfSequence, bitOutOfSequence, undrivenField, undrivenOperand, kindStages, fieldStages, bitStages, operandStages, recordStages, loopStages, sizeGroup, recordGroup, loopGroup, netlistStages, checkStages}
+use Rattle.checking.specs.Checking.{unknownKind, reservedField, follows, outOfSequence, bitOutOfSequence, undrivenField, kindStages, fieldStages, bitStages, operandStages, recordStages, loopStages, sizeGroup, recordGroup, loopGroup, netlistStages, checkStages}
 use Rattle.netlist.specs.Netlist.{netlistOf, ticketOf}
 use Rattle.levels.specs.Evaluate.{netLevel, cellLevel, roundOf, levelsIn, levels, givenLevels, inputSlots, outputSlots, outputLevels}
 use Rattle.calls.specs.Answers.{writtenFigures}
@@ -48,7 +48,7 @@ pub forbidden :
     × Forbidden (output 4294967295 ∷ []) (output 0 ∷ [])
     × Forbidden (input ∷ output 0 ∷ []) (output 0 ∷ [])
     × Forbidden (input ∷ output 0 ∷ []) (input ∷ output 2 ∷ [])
-unfolding levelOf eqLevel eqNet driver word16 word32 bytes16 bytes32 kindOf fieldOf useOf isOperand isCombEdge edgeAt recordAt recordsOf bytesOf cellOf tabulate stepBack reachingIn reaches onLoop firstOf slotBySlot unknownKind reservedField follows outOfSequence bitOutOfSequence undrivenField undrivenOperand kindStages fieldStages bitStages operandStages recordStages loopStages sizeGroup recordGroup loopGroup netlistStages checkStages netlistOf ticketOf those anyOf joined netLevel cellLevel roundOf levelsIn levels givenLevels inputSlots outputSlots outputLevels put checkVerdict levelBytes stimulusStages levelVerdict levelAnswer levelReply sortOf
+unfolding levelOf eqLevel eqNet driver word16 word32 bytes16 bytes32 kindOf fieldOf useOf isOperand isCombEdge edgeAt recordAt recordsOf bytesOf cellOf tabulate stepBack reachingIn reaches onLoop firstOf slotBySlot unknownKind reservedField follows outOfSequence bitOutOfSequence undrivenField kindStages fieldStages bitStages operandStages recordStages loopStages sizeGroup recordGroup loopGroup netlistStages checkStages netlistOf ticketOf those anyOf joined netLevel cellLevel roundOf levelsIn levels givenLevels inputSlots outputSlots outputLevels put checkVerdict levelBytes stimulusStages levelVerdict levelAnswer levelReply sortOf
 forbidden = (
   λ k. let z : _≡_ {A = ℕ} 8 0 = ap number (k .passes) in omega arith,
   λ k. omega (arith, k .shorter),

@@ -23,8 +23,8 @@ use Rattle.loops.specs.Reach.{OnLoop}
 use Rattle.loops.proofs.Reach.{onLoop-false}
 use Rattle.refusals.specs.declared.Verdict.the-variants.{Pass}
 use Rattle.refusals.specs.Refusals.{firstOf}
-use Rattle.checking.specs.Checking.{unknownKind, reservedField, bitOutOfSequence, undriven, undrivenField, undrivenOperand, netlistStages}
-use Rattle.checking.proofs.Groups.{RecordPasses, kind-exactly, field-exactly, bit-exactly, operand-exactly, records-exactly, loops-exactly, netlist-exactly}
+use Rattle.checking.specs.Checking.{unknownKind, reservedField, bitOutOfSequence, undriven, undrivenField, netlistStages}
+use Rattle.checking.proofs.Groups.{fields-driven, RecordPasses, kind-exactly, field-exactly, bit-exactly, operand-exactly, records-exactly, loops-exactly, netlist-exactly}
 use Rattle.netlist.specs.Shape.{visit}
 use Rattle.netlist.specs.Netlist.{Netlist, cellIn, encode}
 use Rattle.basics.specs.Lists.{All}
@@ -66,12 +66,11 @@ module _ (rs : List Record) where
       go true e = h e
       go false e = refl
 
-  cell-driven : (bit : ℕ) (c : Cell) → All (λ n. undriven rs (driver n) ≡ false) (visit c) → undrivenOperand rs (cellRecord bit c) ≡ false
-  unfolding undrivenOperand
+  cell-driven : (bit : ℕ) (c : Cell) → All (λ n. undriven rs (driver n) ≡ false) (visit c) → (f : ℕ) → undrivenField rs (cellRecord bit c) f ≡ false
   cell-driven bit c h =
       let g = fields-have (λ n. undriven rs (driver n) ≡ false) bit c h in
       let r : Record = cellRecord bit c in
-      rw (field-driven r 1 (g .0), field-driven r 2 (g .1), field-driven r 3 (g .2))
+      fields-driven rs r (field-driven r 1 (g .0)) (field-driven r 2 (g .1)) (field-driven r 3 (g .2))
 
 module _ (d : Netlist) (rank : ℕ → ℕ) (good : Sound d rank) where
   abbrev rs : List Record
@@ -95,7 +94,7 @@ module _ (d : Netlist) (rank : ℕ → ℕ) (good : Sound d rank) where
           (ap (λ (r : Record). eqb (r .kind) 2) (encode-at (x .0) (o x e .0))
           ∙ sym (output-kind (getD (d .bits) (x .0) 0) (cellIn (d .cells) (x .0))) ∙ o x e .1)
 
-  operands-driven : (s : ℕ) → s < length (d .cells) → undrivenOperand rs (sound.recordIn d s) ≡ false
+  operands-driven : (s : ℕ) → s < length (d .cells) → (f : ℕ) → undrivenField rs (sound.recordIn d s) f ≡ false
   operands-driven s l =
       cell-driven rs (getD (d .bits) s 0) (cellIn (d .cells) s)
       (all-imp (Wired (d .cells)) (λ n. undriven rs (driver n) ≡ false) net-driven (visit (cellIn (d .cells) s)) (sound-wired d rank good s l))
@@ -112,7 +111,7 @@ module _ (d : Netlist) (rank : ℕ → ℕ) (good : Sound d rank) where
         kind = kind-exactly rs s .1 (ap unknownKind e ∙ known-kind (getD (d .bits) s 0) (cellIn (d .cells) s));
         fields = field-exactly rs s .1 (ap reservedField e ∙ unused-zero (getD (d .bits) s 0) (cellIn (d .cells) s));
         bits = bit-exactly rs s .1 (rw (encode-at (s - 1) (omega arith), e) (good .sequence s l));
-        operands = operand-exactly rs s .1 (ap (undrivenOperand rs) e ∙ operands-driven s l);
+        operands = operand-exactly rs s .1 (λ f. ap (λ (r : Record). undrivenField rs r f) e ∙ operands-driven s l f);
       }
 
   pub sound-passes : firstOf (netlistStages (encode d)) ≡ Pass

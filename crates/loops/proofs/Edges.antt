@@ -2,12 +2,12 @@
 use mathlib.Core.Path.{_≡_, refl, ap, _∙_}
 use mathlib.Core.Bool.{Bool, true, false, cond}
 use mathlib.Core.List.{List}
-use mathlib.Core.Logic.{_⊎_, inl, inr, ⊎-elim}
+use mathlib.Core.Logic.{_⊎_, ⊎-elim}
 use Prim.Native.Nat.{ℕ, _<_, _≤_}
 use native.Mathlib.Omega.{arith}
 use lib.Dec.{eqb, ltb}
 use lib.ListN.{length}
-use borrow.Author.Tests.{eqb-true, ltb-true, ltb-false}
+use borrow.Author.Tests.{ltb-true, ltb-false}
 use Rattle.value.specs.declared.Slot.{Slot}
 use Rattle.cell.specs.declared.Record.{Record}
 use Rattle.kinds.specs.declared.Use.{Use}
@@ -18,6 +18,7 @@ use Rattle.kinds.specs.Kinds.{kindOf, useOf, sortOf}
 use Rattle.cell.specs.Operands.{isOperand, isCombEdge, edgeAt}
 use Rattle.cell.specs.Records.{recordOf, recordIn}
 use Rattle.cell.proofs.Lists.{record-past}
+use Rattle.cell.proofs.Operands.{operand-field}
 
 unused-edge : (r : Record) (f : ℕ) → useOf (kindOf (r .kind)) f ≡ Unused → edgeAt r f ≡ Nowhere
 unfolding edgeAt isCombEdge isOperand
@@ -27,14 +28,12 @@ not-two : (e : Edge) (x : Slot) → e ≡ To x → e ≡ Nowhere → ⊥
 not-two e x p q = let z : _≡_ {A = ℕ} 0 1 = cc in omega arith
 
 pub edge-field : (r : Record) (f : ℕ) (x : Slot) → edgeAt r f ≡ To x → (f ≡ 1) ⊎ ((f ≡ 2) ⊎ (f ≡ 3))
-unfolding useOf
-edge-field r f x e = go (eqb f 1) (eqb f 2) (eqb f 3) refl refl refl
+unfolding edgeAt isCombEdge
+edge-field r f x e = go (isOperand r f) refl
   where
-    go : (a b c : Bool) → eqb f 1 ≡ a → eqb f 2 ≡ b → eqb f 3 ≡ c → (f ≡ 1) ⊎ ((f ≡ 2) ⊎ (f ≡ 3))
-    go true b c p q s = inl (eqb-true f 1 p)
-    go false true c p q s = inr (inl (eqb-true f 2 q))
-    go false false true p q s = inr (inr (eqb-true f 3 s))
-    go false false false p q s = absurd (not-two (edgeAt r f) x e (unused-edge r f (rw (p, q, s))))
+    go : (b : Bool) → isOperand r f ≡ b → (f ≡ 1) ⊎ ((f ≡ 2) ⊎ (f ≡ 3))
+    go true o = operand-field r f o
+    go false o = absurd (not-two (edgeAt r f) x e (rw o))
 
 pub edge-range : (r : Record) (f : ℕ) (x : Slot) → edgeAt r f ≡ To x → (1 ≤ f) × (f ≤ 3)
 edge-range r f x e = ⊎-elim (λ i. omega arith) (⊎-elim (λ i. omega arith) (λ i. omega arith)) (edge-field r f x e)

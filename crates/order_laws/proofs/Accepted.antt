@@ -1,9 +1,8 @@
 -- Records that pass refusals 4 to 8: their kinds are known, their operands name slots other than outputs, and a rank falls along their edges.
 -- Assumes nothing.
-use mathlib.Core.Path.{_≡_, sym, ap, ap₂, _∙_, subst}
+use mathlib.Core.Path.{_≡_, sym, ap, ap₂, _∙_}
 use mathlib.Core.Bool.{true, false, not, _&&_}
 use mathlib.Core.List.{List, map}
-use mathlib.Core.Logic.{⊎-elim}
 use Prim.Native.Nat.{ℕ, _<_}
 use native.Mathlib.Omega.{arith}
 use lib.Dec.{eqb, ltb}
@@ -21,7 +20,7 @@ use Rattle.loops.specs.Reach.{OnLoop, onLoop}
 use Rattle.loops.proofs.Rank.{rank, rank-falls, no-loop-below}
 use Rattle.refusals.specs.declared.Verdict.the-variants.{Pass}
 use Rattle.refusals.specs.Refusals.{firstOf}
-use Rattle.checking.specs.Checking.{unknownKind, reservedField, bitOutOfSequence, undriven, undrivenField, undrivenOperand, netlistStages}
+use Rattle.checking.specs.Checking.{unknownKind, reservedField, bitOutOfSequence, undriven, undrivenField, netlistStages}
 use Rattle.checking.proofs.Groups.{kind-exactly, field-exactly, bit-exactly, operand-exactly, records-exactly, loops-exactly, netlist-exactly}
 use Rattle.netlist.specs.Shape.{visit, combReads, isOutput}
 use Rattle.netlist.specs.Netlist.{cellIn}
@@ -31,7 +30,7 @@ use Rattle.order_laws.specs.Members.{Drives, Wired}
 use Rattle.basics.proofs.Truth.{neither}
 use Rattle.basics.proofs.Indices.{getD-mapped}
 use Rattle.order_laws.proofs.Operands.{comb-by}
-use Rattle.order_laws.proofs.Edges.{operand-field, other-edge, operands-by}
+use Rattle.order_laws.proofs.Edges.{other-edge, operands-by}
 
 module _ (rs : List Record) where
   -- 7: an operand names a record, and no output
@@ -43,22 +42,17 @@ module _ (rs : List Record) where
       let g = neither (not (ltb (x .0) (length rs))) _ e in
       (ltb-true (x .0) (length rs) (not-false (ltb (x .0) (length rs)) (g .0)), g .1)
 
-  operand-tight : (r : Record) (f : ℕ) (x : Slot) → undrivenOperand rs r ≡ false → isOperand r f ≡ true → driver (netAt (fieldOf r f)) ≡ driven.Cell x
+  operand-tight : (r : Record) (f : ℕ) (x : Slot) → undrivenField rs r f ≡ false → isOperand r f ≡ true → driver (netAt (fieldOf r f)) ≡ driven.Cell x
       → Tight (x .0)
-  unfolding undrivenOperand undrivenField
-  operand-tight r f x e o d =
-      let g₁ = neither (undrivenField rs r 1) _ e in
-      let g₂ = neither (undrivenField rs r 2) _ (g₁ .1) in
-      let at : (k : ℕ) → undrivenField rs r k ≡ false → f ≡ k → Tight (x .0) =
-      λ k h z. slot-tight x (sym (ap₂ (λ b y. b && undriven rs y) o d) ∙ subst (λ (j : ℕ). undrivenField rs r j ≡ false) (sym z) h) in
-      ⊎-elim (at 1 (g₁ .0)) (⊎-elim (at 2 (g₂ .0)) (at 3 (g₂ .1))) (operand-field r f o)
+  unfolding undrivenField
+  operand-tight r f x e o d = slot-tight x (sym (ap₂ (λ b y. b && undriven rs y) o d) ∙ e)
 
   module _ (pass : firstOf (netlistStages rs) ≡ Pass) where
     pub record Passed (s : ℕ) : Type 0 where
       pub kind : unknownKind (recordIn rs s) ≡ false
       pub fields : reservedField (recordIn rs s) ≡ false
       pub bits : bitOutOfSequence rs s ≡ false
-      pub operands : undrivenOperand rs (recordIn rs s) ≡ false
+      pub operands : (f : ℕ) → undrivenField rs (recordIn rs s) f ≡ false
       pub loops : onLoop rs s ≡ false
 
     pub passed : (s : ℕ) → s < length rs → Passed s
@@ -86,7 +80,7 @@ module _ (rs : List Record) where
         → All (Drives Q) (visit (cellOf (recordIn rs s)))
     passed-operands Q s l h =
         operands-by (Drives Q) (recordIn rs s) (passed-known s l)
-        (λ f e x d. h f x e d (operand-tight (recordIn rs s) f x (passed s l .operands) e d))
+        (λ f e x d. h f x e d (operand-tight (recordIn rs s) f x (passed s l .operands f) e d))
 
     pub passed-ranked : (s : ℕ) → s < length rs
         → All (Drives (λ x. (x < length (map cellOf rs)) × (rank rs x < rank rs s))) (combReads (cellIn (map cellOf rs) s))

@@ -1,11 +1,10 @@
 -- The operands of a cell by the fields of its record, and the combinational edges that they are. Assumes nothing.
 use mathlib.Core.Path.{_≡_, refl, sym, ap, _∙_, subst}
 use mathlib.Core.Bool.{true, false≢true, Bool, false, cond}
-use mathlib.Core.Logic.{_⊎_, inl, inr, ⊎-elim}
+use mathlib.Core.Logic.{_⊎_, ⊎-elim}
 use Prim.Native.Nat.{ℕ, zero, suc, _/_, _%_}
 use native.Mathlib.Omega.{arith}
 use lib.Dec.{eqb}
-use borrow.Author.Tests.{eqb-true}
 use Rattle.value.specs.declared.Net.{Net}
 use Rattle.value.specs.declared.Driver.{Driver}
 use Rattle.value.specs.declared.Driver.the-variants as driven
@@ -72,17 +71,6 @@ fields-have P bit (Or a b) h = ((λ e. h .0), (λ e. h .1 .0), clash)
 fields-have P bit (Xor a b) h = ((λ e. h .0), (λ e. h .1 .0), clash)
 fields-have P bit (Mux a b c) h = ((λ e. h .0), (λ e. h .1 .0), (λ e. h .1 .1 .0))
 fields-have P bit (Aig p q) h = ((λ e. h .0), (λ e. h .1 .0), clash)
-
--- fields 1, 2 and 3 alone are operands
-pub operand-field : (r : Record) (f : ℕ) → isOperand r f ≡ true → (f ≡ 1) ⊎ ((f ≡ 2) ⊎ (f ≡ 3))
-unfolding isOperand useOf
-operand-field r f o = go (eqb f 1) (eqb f 2) (eqb f 3) refl refl refl
-  where
-    go : (a b c : Bool) → eqb f 1 ≡ a → eqb f 2 ≡ b → eqb f 3 ≡ c → (f ≡ 1) ⊎ ((f ≡ 2) ⊎ (f ≡ 3))
-    go true b c p q s = inl (eqb-true f 1 p)
-    go false true c p q s = inr (inl (eqb-true f 2 q))
-    go false false true p q s = inr (inr (eqb-true f 3 s))
-    go false false false p q s = let none : isOperand r f ≡ false = rw (p, q, s) in clash (sym none ∙ o)
 
 -- an edge by a field whose operand a slot drives
 edge-to : (r : Record) (f : ℕ) (x : Slot) → isCombEdge r f ≡ true → driver (netAt (fieldOf r f)) ≡ driven.Cell x → edgeAt r f ≡ To x

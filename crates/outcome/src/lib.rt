@@ -6,13 +6,15 @@ mod tally;
 pub use digest::Sums;
 pub use tally::Tally;
 
-// What a call answers: the number that it returns and its first three answer words. The others are
-// 0.
+// What a call answers: the number that it returns and its first five answer words. The last of these
+// is kept for later and 0 today, as are the others.
 pub struct Figures {
     pub number: u32,
     pub place: u32,
     pub count: u32,
     pub extra: u32,
+    pub field: u32,
+    pub spare: u32,
 }
 
 pub struct Expected {
@@ -44,6 +46,8 @@ pub fn judge(number: u32, answer: [u32; 8], expected: Figures) -> Outcome {
         place: answer[0],
         count: answer[1],
         extra: answer[2],
+        field: answer[3],
+        spare: answer[4],
     };
     if !same(answered, expected) {
         return Outcome::Answered(answered, expected);
@@ -80,11 +84,16 @@ pub fn judge_reply(
 }
 
 fn same(x: Figures, y: Figures) -> bool {
-    x.number == y.number && x.place == y.place && x.count == y.count && x.extra == y.extra
+    x.number == y.number
+        && x.place == y.place
+        && x.count == y.count
+        && x.extra == y.extra
+        && x.field == y.field
+        && x.spare == y.spare
 }
 
 fn is_rest_zero(answer: [u32; 8]) -> bool {
-    answer[3] == 0 && answer[4] == 0 && answer[5] == 0 && answer[6] == 0 && answer[7] == 0
+    answer[5] == 0 && answer[6] == 0 && answer[7] == 0
 }
 
 // Writes what is not as it must be, to the end of its line.
@@ -121,6 +130,8 @@ fn tell_figures(x: Figures) {
     tell_figure(x.place);
     tell_figure(x.count);
     tell_figure(x.extra);
+    tell_figure(x.field);
+    tell_figure(x.spare);
 }
 
 fn tell_figure(x: u32) {

@@ -1,9 +1,9 @@
 -- Which refusal is given, for any list of stages. Assumes nothing.
 use mathlib.Core.Path.{_≡_, refl, sym, ap, _∙_, subst}
-use mathlib.Core.Bool.{Bool, true, false, cond, true≢false}
-use mathlib.Core.Logic.{_↔_}
+use mathlib.Core.Bool.{Bool, true, false}
+use mathlib.Core.Logic.{_↔_, _⊎_, inl, inr, ⊎-elim}
 use mathlib.Core.List.{List, [], _∷_, _++_}
-use Prim.Native.Nat.{ℕ, zero, suc, _+_, _<_, _≤_}
+use Prim.Native.Nat.{ℕ, zero, suc, _+_, _<_}
 use native.Mathlib.Omega.{arith}
 use native.Mathlib.Numerals.{add-one}
 use native.Mathlib.Decide.{decLt}
@@ -59,7 +59,7 @@ module _ (st : Stage) (sts : List Stage) where
         let t : g .index < length sts = g .there in
         record { index = suc (g .index); there = omega arith; gives = g .gives; holds = g .holds; before = none-before (g .index) (g .before) }
 
-refused-inj : (a b : Refusal) → Refused a ≡ Refused b → a ≡ b
+pub refused-inj : (a b : Refusal) → Refused a ≡ Refused b → a ≡ b
 refused-inj a b e = cc
 
 given-if : (sts : List Stage) (r : Refusal) → firstOf sts ≡ Refused r → Given sts r
@@ -131,6 +131,15 @@ passes-both xs ys e = go (firstOf xs) refl
 pub both-exactly : (xs ys : List Stage) → (firstOf (xs ++ ys) ≡ Pass) ↔ ((firstOf xs ≡ Pass) × (firstOf ys ≡ Pass))
 both-exactly xs ys = (passes-both xs ys, λ p. later-decides xs ys (p .0) ∙ p .1)
 
+-- a refusal comes from the first group, or from the second where the first passes
+pub refused-by : (xs ys : List Stage) (r : Refusal) → firstOf (xs ++ ys) ≡ Refused r
+    → (firstOf xs ≡ Refused r) ⊎ ((firstOf xs ≡ Pass) × (firstOf ys ≡ Refused r))
+refused-by xs ys r e = go (firstOf xs) refl
+  where
+    go : (v : Verdict) → firstOf xs ≡ v → (firstOf xs ≡ Refused r) ⊎ ((firstOf xs ≡ Pass) × (firstOf ys ≡ Refused r))
+    go Pass h = inr (h, sym (later-decides xs ys h) ∙ e)
+    go (Refused q) h = inl (h ∙ sym (earlier-decides xs ys q h) ∙ e)
+
 -- groups with the same verdicts can stand for each other
 pub both-same : (xs xs′ ys ys′ : List Stage) → firstOf xs ≡ firstOf xs′ → firstOf ys ≡ firstOf ys′ → firstOf (xs ++ ys) ≡ firstOf (xs′ ++ ys′)
 both-same xs xs′ ys ys′ e f = go (firstOf xs) refl
@@ -193,6 +202,27 @@ module _ (stages : ℕ → List Stage) where
   pub slots-exactly : (n : ℕ) → (firstOf (slotBySlot stages n) ≡ Pass) ↔ ((i : ℕ) → i < n → firstOf (stages i) ≡ Pass)
   slots-exactly n = (λ e i l. slots-passed n i e l, slots-pass n)
 
+  -- all slots below one pass, and that one is refused
+  pub record Lowest (n : ℕ) (r : Refusal) : Type 0 where
+    pub slot : ℕ
+    pub there : slot < n
+    pub lower : (i : ℕ) → i < slot → firstOf (stages i) ≡ Pass
+    pub gives : firstOf (stages slot) ≡ Refused r
+
+  -- the lowest slot that is refused decides
+  pub slots-lowest : (n : ℕ) (r : Refusal) → firstOf (slotBySlot stages n) ≡ Refused r → Lowest n r
+  unfolding slotBySlot
+  slots-lowest zero r e = absurd (passes-not r (sym no-stage ∙ e))
+  slots-lowest (suc n) r e = ⊎-elim (λ f. wider (slots-lowest n r f)) (λ p. last (p .0) (p .1)) (refused-by (slotBySlot stages n) (stages n) r e)
+    where
+      wider : Lowest n r → Lowest (suc n) r
+      wider low =
+          let l : low .slot < n = low .there in
+          record { slot = low .slot; there = omega arith; lower = low .lower; gives = low .gives }
+
+      last : firstOf (slotBySlot stages n) ≡ Pass → firstOf (stages n) ≡ Refused r → Lowest (suc n) r
+      last p f = record { slot = n; there = omega arith; lower = λ i l. slots-passed n i p l; gives = f }
+
 -- slot by slot: what has the same verdict at each slot has the same verdict
 pub slots-same : (xs ys : ℕ → List Stage) (n : ℕ) → ((i : ℕ) → i < n → firstOf (xs i) ≡ firstOf (ys i)) → firstOf (slotBySlot xs n) ≡ firstOf (slotBySlot ys n)
 unfolding slotBySlot
@@ -203,3 +233,38 @@ slots-same xs ys (suc n) h = both-same (slotBySlot xs n) (slotBySlot ys n) (xs n
 pub slots-group-out : (xs g ys : ℕ → List Stage) (n : ℕ) → ((i : ℕ) → i < n → firstOf (xs i) ≡ Pass → firstOf (g i) ≡ Pass)
     → firstOf (slotBySlot (λ i. xs i ++ g i ++ ys i) n) ≡ firstOf (slotBySlot (λ i. xs i ++ ys i) n)
 slots-group-out xs g ys n p = slots-same (λ i. xs i ++ g i ++ ys i) (λ i. xs i ++ ys i) n (λ i l. group-out (xs i) (g i) (ys i) (p i l))
+
+-- each stage of a list gives a refusal of which P holds; and then of the one that the list gives, if any
+module _ (P : Refusal → Type 0) where
+  abbrev pub EachGives : List Stage → Type 0
+  EachGives [] = Unit {0}
+  EachGives (st ∷ sts) = P (st .1) × EachGives sts
+
+  abbrev pub GivesSuch : Verdict → Type 0
+  GivesSuch Pass = Unit {0}
+  GivesSuch (Refused r) = P r
+
+  pub both-give : (xs ys : List Stage) → EachGives xs → EachGives ys → EachGives (xs ++ ys)
+  both-give [] ys e f = f
+  both-give (st ∷ xs) ys e f = (e .0, both-give xs ys (e .1) f)
+
+  pub slots-give : (stages : ℕ → List Stage) → ((s : ℕ) → EachGives (stages s)) → (n : ℕ) → EachGives (slotBySlot stages n)
+  unfolding slotBySlot
+  slots-give stages each zero = tt
+  slots-give stages each (suc n) = both-give (slotBySlot stages n) (stages n) (slots-give stages each n) (each n)
+
+  pub first-gives : (sts : List Stage) → EachGives sts → GivesSuch (firstOf sts)
+  unfolding firstOf
+  first-gives [] e = tt
+  first-gives (st ∷ sts) e = go (first-gives sts (e .1)) (st .0) refl
+    where
+      go : GivesSuch (firstOf sts) → (b : Bool) → st .0 ≡ b → GivesSuch (firstOf (st ∷ sts))
+      go rest true h = subst GivesSuch (sym (first-refuses st sts h)) (e .0)
+      go rest false h = subst GivesSuch (sym (first-passes st sts h)) rest
+
+  pub given-such : (sts : List Stage) (r : Refusal) → EachGives sts → firstOf sts ≡ Refused r → P r
+  given-such sts r e f = subst GivesSuch f (first-gives sts e)
+
+pub each-imp : (P Q : Refusal → Type 0) → ((r : Refusal) → P r → Q r) → (sts : List Stage) → EachGives P sts → EachGives Q sts
+each-imp P Q f [] e = tt
+each-imp P Q f (st ∷ sts) e = (f (st .1) (e .0), each-imp P Q f sts (e .1))

@@ -1,31 +1,31 @@
--- Refusals (paper, "When a ticket is turned away"): their numbers and places, and which one is given. Assumes nothing: these are definitions.
+-- Refusals (paper, "When a ticket is turned away"): their numbers, places and fields, and which one is given. Assumes nothing: these are definitions.
 use mathlib.Core.Bool.{Bool, cond}
 use mathlib.Core.List.{List, [], _∷_, _++_}
 use Prim.Native.Nat.{ℕ, zero, suc}
-use Rattle.value.specs.declared.Slot.{Slot}
 use Rattle.refusals.specs.declared.Refusal.{Refusal}
 use Rattle.refusals.specs.declared.Refusal.the-variants.{ShortWork, PartialRecord, TooManyRecords, UnknownKind, ReservedField, BitOutOfSequence, UndrivenOperand, Loop, SlotsExhausted, LevelCount, LevelValue, ShortReply}
 use Rattle.refusals.specs.declared.Verdict.{Verdict}
 use Rattle.refusals.specs.declared.Verdict.the-variants.{Pass, Refused}
 use Rattle.refusals.specs.declared.Figures.{Figures}
 
-abbrev pub figuresAt : ℕ → ℕ → Figures
-figuresAt number place = record { number = number; place = place }
+abbrev pub figuresAt : ℕ → ℕ → ℕ → Figures
+figuresAt number place field = record { number = number; place = place; field = field }
 
--- number and place of each refusal, and the paper's word for it
+-- number, place and field of each refusal, and the paper's word for it. Refusal 7 has, beside its place, the first field that fails: 1 for a, 2 for b,
+-- 3 for c; for all others the field is 0 (request 2026-06)
 abbrev pub figures : Refusal → Figures
-figures ShortWork = figuresAt 1 0  -- short bench
-figures PartialRecord = figuresAt 2 0  -- torn
-figures TooManyRecords = figuresAt 3 0  -- overlong
-figures (UnknownKind s) = figuresAt 4 (s .0)  -- unknown kind
-figures (ReservedField s) = figuresAt 5 (s .0)  -- spoilt field
-figures (BitOutOfSequence s) = figuresAt 6 (s .0)  -- broken bus
-figures (UndrivenOperand s) = figuresAt 7 (s .0)  -- loose wire
-figures (Loop s) = figuresAt 8 (s .0)  -- loop
-figures SlotsExhausted = figuresAt 9 0  -- bench full
-figures LevelCount = figuresAt 10 0  -- wrong stimulus
-figures (LevelValue i) = figuresAt 11 i  -- no level
-figures ShortReply = figuresAt 12 0  -- short reply
+figures ShortWork = figuresAt 1 0 0  -- short bench
+figures PartialRecord = figuresAt 2 0 0  -- torn
+figures TooManyRecords = figuresAt 3 0 0  -- overlong
+figures (UnknownKind s) = figuresAt 4 (s .0) 0  -- unknown kind
+figures (ReservedField s) = figuresAt 5 (s .0) 0  -- spoilt field
+figures (BitOutOfSequence s) = figuresAt 6 (s .0) 0  -- broken bus
+figures (UndrivenOperand s f) = figuresAt 7 (s .0) f  -- loose wire
+figures (Loop s) = figuresAt 8 (s .0) 0  -- loop
+figures SlotsExhausted = figuresAt 9 0 0  -- bench full
+figures LevelCount = figuresAt 10 0 0  -- wrong stimulus
+figures (LevelValue i) = figuresAt 11 i 0  -- no level
+figures ShortReply = figuresAt 12 0 0  -- short reply
 
 -- a stage: its condition, and the refusal that it gives where the condition holds
 abbrev pub Stage : Type 0

@@ -13,7 +13,7 @@ use Rattle.cell.specs.Records.{recordOf, recordAt, recordsOf, bytesOf, cellOf, 
 use Rattle.basics.specs.Lists.{tabulate, those, anyOf, joined}
 use Rattle.loops.specs.Reach.{stepBack, reachingIn, reaches, onLoop}
 use Rattle.refusals.specs.Refusals.{firstOf, slotBySlot}
-use Rattle.checking.specs.Checking.{unknownKind, reservedField, follows, outOfSequence, bitOutOfSequence, undrivenField, undrivenOperand, kindStages, fieldStages, bitStages, operandStages, recordStages, loopStages, sizeGroup, recordGroup, loopGroup, netlistStages, checkStages}
+use Rattle.checking.specs.Checking.{unknownKind, reservedField, follows, outOfSequence, bitOutOfSequence, undrivenField, kindStages, fieldStages, bitStages, operandStages, recordStages, loopStages, sizeGroup, recordGroup, loopGroup, netlistStages, checkStages}
 use Rattle.netlist.specs.Shape.{visit, visitMut, hasEffects}
 use Rattle.netlist.specs.Netlist
 use Rattle.netlist.specs.Netlist.{netlistOf, encode, ticketOf, sources, outputOf, iterCells, cellDeps}
@@ -52,7 +52,7 @@ v = encoded (netlistOf (inputs ++ (recordOf 2 0 0 7 9 0 ∷ recordOf 9 0 0 8 9 0
 
 -- a work and a reply slice that are long enough
 computed : Rewriting t u × Rewriting u v
-unfolding eqNet leNet driver isAlways canonicalize notControl eqControl leControl word16 word32 bytes16 bytes32 kindOf fieldOf useOf isOperand isCombEdge edgeAt recordAt recordsOf bytesOf cellOf cellRecord tabulate stepBack reachingIn reaches onLoop firstOf slotBySlot unknownKind reservedField follows outOfSequence bitOutOfSequence undrivenField undrivenOperand kindStages fieldStages bitStages operandStages recordStages loopStages sizeGroup recordGroup loopGroup netlistStages checkStages visit visitMut hasEffects netlistOf encode ticketOf those anyOf joined sources outputOf iterCells cellDeps Netlist.run each down walk walkFrom bitDeps topoSort unchanged followed mapNetNew findNewCell applied eqRecord eqCell seek keep keptSlots countKept netMap compact _orElse_ fromControl normalize ifNot ifAig ifXor notRule aigOfNot andAnd andWith aigOfAnd nandAnd xorOf nandNand nandWith aigOfNand xorAnd xorWith aigOfXor aigOrder aigRule andXor xorXor xorOrder xorRule simpleAigOpt stamp findCell entered finished weight rules process processCell addCell runItem runItems run rewrite put checkVerdict rewriteRun rewriteBytes rewriteStages rewriteVerdict rewriteAnswer rewriteReply sortOf
+unfolding eqNet leNet driver isAlways canonicalize notControl eqControl leControl word16 word32 bytes16 bytes32 kindOf fieldOf useOf isOperand isCombEdge edgeAt recordAt recordsOf bytesOf cellOf cellRecord tabulate stepBack reachingIn reaches onLoop firstOf slotBySlot unknownKind reservedField follows outOfSequence bitOutOfSequence undrivenField kindStages fieldStages bitStages operandStages recordStages loopStages sizeGroup recordGroup loopGroup netlistStages checkStages visit visitMut hasEffects netlistOf encode ticketOf those anyOf joined sources outputOf iterCells cellDeps Netlist.run each down walk walkFrom bitDeps topoSort unchanged followed mapNetNew findNewCell applied eqRecord eqCell seek keep keptSlots countKept netMap compact _orElse_ fromControl normalize ifNot ifAig ifXor notRule aigOfNot andAnd andWith aigOfAnd nandAnd xorOf nandNand nandWith aigOfNand xorAnd xorWith aigOfXor aigOrder aigRule andXor xorXor xorOrder xorRule simpleAigOpt stamp findCell entered finished weight rules process processCell addCell runItem runItems run rewrite put checkVerdict rewriteRun rewriteBytes rewriteStages rewriteVerdict rewriteAnswer rewriteReply sortOf
 computed = (
   record { words = 16384; reply = replicate 160 255; count = 128; accepted = refl; result = refl },
   record { words = 16384; reply = replicate 160 255; count = 128; accepted = refl; result = refl },

@@ -4,12 +4,14 @@ use oracle_list::word;
 use outcome::Figures;
 use outcome::Sums;
 
-pub fn figures_of(x: &[u8; 8]) -> Figures {
+pub fn figures_of(x: &[u8; 12]) -> Figures {
     Figures {
         number: half(x[0], x[1]),
         place: half(x[2], x[3]),
         count: half(x[4], x[5]),
         extra: half(x[6], x[7]),
+        field: half(x[8], x[9]),
+        spare: half(x[10], x[11]),
     }
 }
 

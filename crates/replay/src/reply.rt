@@ -17,15 +17,16 @@ pub fn judge(
     lent: Lent,
     seed: u32,
 ) -> Step {
-    let mut x = [0; 8];
-    if io::read_full(expected, &mut x) < 8 {
+    let mut x = [0; 12];
+    if io::read_full(expected, &mut x) < 12 {
         return Step::Torn;
     }
     let figures = entry::figures_of(&x);
-    if io::read_full(expected, &mut x) < 8 {
+    let mut y = [0; 8];
+    if io::read_full(expected, &mut y) < 8 {
         return Step::Torn;
     }
-    let sums = entry::sums_of(&x);
+    let sums = entry::sums_of(&y);
     let mut reply = [0; 17000];
     Step::Tried(trial::replying(
         call,

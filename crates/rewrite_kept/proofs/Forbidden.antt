@@ -14,7 +14,7 @@ use Rattle.cell.specs.Records.{recordOf, recordAt, recordsOf, bytesOf, cellOf}
 use Rattle.basics.specs.Lists.{tabulate, those, anyOf, joined}
 use Rattle.loops.specs.Reach.{stepBack, reachingIn, reaches, onLoop}
 use Rattle.refusals.specs.Refusals.{firstOf, slotBySlot}
-use Rattle.checking.specs.Checking.{unknownKind, reservedField, follows, outOfSequence, bitOutOfSequence, undrivenField, undrivenOperand, kindStages, fieldStages, bitStages, operandStages, recordStages, loopStages, sizeGroup, recordGroup, loopGroup, netlistStages, checkStages}
+use Rattle.checking.specs.Checking.{unknownKind, reservedField, follows, outOfSequence, bitOutOfSequence, undrivenField, kindStages, fieldStages, bitStages, operandStages, recordStages, loopStages, sizeGroup, recordGroup, loopGroup, netlistStages, checkStages}
 use Rattle.netlist.specs.Netlist.{netlistOf, ticketOf}
 use Rattle.levels.specs.Evaluate.{netLevel, cellLevel, roundOf, levelsIn, levels, givenLevels, inputSlots, outputSlots, outputLevels}
 use Rattle.calls.specs.Answers.{writtenFigures}
@@ -42,7 +42,7 @@ Forbidden rs rs′ = KeptDefinite 16384 (ticketOf rs) (ticketOf rs′) → ⊥
 
 -- a constant for an input's level; an input less, which no output read
 pub tickets-forbidden : Forbidden (input ∷ output 2 ∷ []) (input ∷ output 0 ∷ []) × Forbidden (input ∷ output 0 ∷ []) (output 0 ∷ [])
-unfolding levelOf eqLevel eqNet driver word16 word32 bytes16 bytes32 kindOf fieldOf useOf isOperand isCombEdge edgeAt recordAt recordsOf bytesOf cellOf tabulate stepBack reachingIn reaches onLoop firstOf slotBySlot unknownKind reservedField follows outOfSequence bitOutOfSequence undrivenField undrivenOperand kindStages fieldStages bitStages operandStages recordStages loopStages sizeGroup recordGroup loopGroup netlistStages checkStages netlistOf ticketOf those anyOf joined netLevel cellLevel roundOf levelsIn levels givenLevels inputSlots outputSlots outputLevels put checkVerdict levelBytes stimulusStages levelVerdict levelAnswer levelReply sortOf
+unfolding levelOf eqLevel eqNet driver word16 word32 bytes16 bytes32 kindOf fieldOf useOf isOperand isCombEdge edgeAt recordAt recordsOf bytesOf cellOf tabulate stepBack reachingIn reaches onLoop firstOf slotBySlot unknownKind reservedField follows outOfSequence bitOutOfSequence undrivenField kindStages fieldStages bitStages operandStages recordStages loopStages sizeGroup recordGroup loopGroup netlistStages checkStages netlistOf ticketOf those anyOf joined netLevel cellLevel roundOf levelsIn levels givenLevels inputSlots outputSlots outputLevels put checkVerdict levelBytes stimulusStages levelVerdict levelAnswer levelReply sortOf
 tickets-forbidden = (
   λ k. let z : _≡_ {A = ℕ} 0 1 = k .levels (1 ∷ []) .same 0 (omega arith) in omega arith,
   λ k. let z : _≡_ {A = ℕ} 10 0 = ap (λ w. writtenFigures w .number) (k .answers (omega arith) (1 ∷ []) (255 ∷ [])) in omega arith,

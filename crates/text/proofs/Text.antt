@@ -5,6 +5,7 @@ use Prim.Native.Nat.{ℕ, _+_, _*_, _^_, _<_, _≤_}
 use native.Mathlib.Omega.{arith}
 use native.Mathlib.Numerals.{add-one}
 use lib.ListN.{length, getD, set, take, length-append, length-set}
+use borrow.Author.Tests.{eq-eqb, ne-eqb}
 use lib.Seq.{sets, length-sets, take-suc, take-all, length-take-le}
 use Rattle.cell.proofs.Laws.{sets-append}
 use Rattle.cell.specs.declared.Record.{Record}
@@ -14,7 +15,7 @@ use Rattle.refusals.specs.Refusals.{figures}
 use Rattle.io.specs.Counts.{Counts}
 use Rattle.io.specs.Digits.{digits, Fewest}
 use Rattle.lines.specs.Decimal.{decimal}
-use Rattle.lines.specs.Lines.{spaced, toEnd, recordLine, refusedWord, refusalLine}
+use Rattle.lines.specs.Lines.{spaced, toEnd, recordLine, refusedWord, refusalNumbers, refusalLine}
 use Rattle.text.specs.Text.{Puts}
 use Rattle.lines.proofs.Decimal.{fewest-are, ten-digits}
 
@@ -123,7 +124,16 @@ module _ (t u v : List ℕ) (at m n : ℕ) where
   unfolding recordLine
   record-put s r p q = puts-then 10 67 80 t u v at m n (decimal s) (toEnd (r .kind ∷ r .flags ∷ r .bit ∷ r .a ∷ r .b ∷ r .c ∷ [])) (omega arith) p q
 
-  pub refusal-put : (x : Refusal) (f : Figures) → f ≡ figures x → Puts 7 t u at refusedWord m → Puts 23 u v m (toEnd (f .number ∷ f .place ∷ [])) n → Puts 80 t v at (refusalLine x) n
+  refusal-put : (x : Refusal) (f : Figures) → f ≡ figures x → (k : ℕ) → k ≤ 73 → (ns : List ℕ) → ns ≡ refusalNumbers f → Puts 7 t u at refusedWord m → Puts k u v m (toEnd ns) n
+      → Puts 80 t v at (refusalLine x) n
   unfolding refusalLine
-  refusal-put x f e p q =
-      subst (λ (g : Figures). Puts 80 t v at (refusedWord ++ toEnd (g .number ∷ g .place ∷ [])) n) e (puts-then 7 23 80 t u v at m n refusedWord (toEnd (f .number ∷ f .place ∷ [])) (omega arith) p q)
+  refusal-put x f e k l ns g p q =
+      subst (λ (ms : List ℕ). Puts 80 t v at (refusedWord ++ toEnd ms) n) (g ∙ ap refusalNumbers e)
+      (puts-then 7 k 80 t u v at m n refusedWord (toEnd ns) (omega arith) p q)
+
+  module _ (x : Refusal) (f : Figures) (e : f ≡ figures x) (p : Puts 7 t u at refusedWord m) where
+    pub undriven-put : f .number ≡ 7 → Puts 34 u v m (toEnd (f .number ∷ f .place ∷ f .field ∷ [])) n → Puts 80 t v at (refusalLine x) n
+    undriven-put h q = refusal-put x f e 34 (omega arith) (f .number ∷ f .place ∷ f .field ∷ []) (rw (eq-eqb (f .number) 7 h)) p q
+
+    pub other-put : (f .number ≡ 7 → ⊥) → Puts 23 u v m (toEnd (f .number ∷ f .place ∷ [])) n → Puts 80 t v at (refusalLine x) n
+    other-put h q = refusal-put x f e 23 (omega arith) (f .number ∷ f .place ∷ []) (rw (ne-eqb (f .number) 7 h)) p q

@@ -57,13 +57,17 @@ pub fn put_record(text: &mut [u8], at: usize, s: u32, r: Record) -> usize
     put_fields(text, n, &fields)
 }
 
-// The line of a refusal: `refused`, number, place.
+// The line of a refusal: `refused`, number, place, and after a 7 the field.
 pub fn put_refusal(text: &mut [u8], at: usize, x: Refusal) -> usize
     requires { ⌜ at + 80 ≤ length (now text) ⌝ }
     ensures { λ n. ⌜ Puts 80 (now (text .entry)) (now (text .exit)) at (refusalLine x) n ⌝ }
 {
     let f = refusals::figures_of(x);
-    let fields = [f.number, f.place];
     let n = put_all(text, at, b"refused");
-    put_fields(text, n, &fields)
+    if f.number == 7 {
+        let numbers = [f.number, f.place, f.field];
+        return put_fields(text, n, &numbers);
+    }
+    let numbers = [f.number, f.place];
+    put_fields(text, n, &numbers)
 }

@@ -14,7 +14,7 @@ use Rattle.cell.specs.Records.{recordAt, recordsOf, bytesOf, cellOf, cellRecord
 use Rattle.basics.specs.Lists.{tabulate, those, anyOf, joined}
 use Rattle.loops.specs.Reach.{stepBack, reachingIn, reaches, onLoop}
 use Rattle.refusals.specs.Refusals.{firstOf, slotBySlot}
-use Rattle.checking.specs.Checking.{unknownKind, reservedField, follows, outOfSequence, bitOutOfSequence, undrivenField, undrivenOperand, kindStages, fieldStages, bitStages, operandStages, recordStages, loopStages, sizeGroup, recordGroup, loopGroup, netlistStages, checkStages, gateCount}
+use Rattle.checking.specs.Checking.{unknownKind, reservedField, follows, outOfSequence, bitOutOfSequence, undrivenField, kindStages, fieldStages, bitStages, operandStages, recordStages, loopStages, sizeGroup, recordGroup, loopGroup, netlistStages, checkStages, gateCount}
 use Rattle.netlist.specs.Shape.{visit, visitMut, hasEffects}
 use Rattle.netlist.specs.Netlist
 use Rattle.netlist.specs.Netlist.{netlistOf, encode, ticketOf, sources, outputOf, iterCells, cellDeps}
@@ -39,12 +39,12 @@ use Rattle.tickets.specs.Levels.{tables}
 use Rattle.tickets.specs.Refused.{given, wanted, trials, AnsweredAsPrinted, NumberedAsPrinted, ClearedAsPrinted}
 use Rattle.tickets.specs.Wrong.{Fails, WrongFail}
 
--- an answer's number by place, then the bytes of the reply: 0 number, 2 count, 3 gate count
+-- the numbers of an answer in a row, then the bytes of the reply: 0 number, 2 count, 3 gate count or flag, 4 field
 abbrev at : ℕ → Told × List ℕ → ℕ
-at i x = getD (x .0 .number ∷ x .0 .place ∷ x .0 .count ∷ x .0 .extra ∷ x .1) i 0
+at i x = getD (x .0 .number ∷ x .0 .place ∷ x .0 .count ∷ x .0 .extra ∷ x .0 .field ∷ x .1) i 0
 
 as-printed : AsPrinted starred × AsPrinted corners × AsPrinted tables × AnsweredAsPrinted × WrongFail
-unfolding levelOf eqLevel eqNet leNet driver isAlways canonicalize notControl eqControl leControl word16 word32 bytes16 bytes32 kindOf fieldOf useOf isOperand isCombEdge edgeAt recordAt recordsOf bytesOf cellOf cellRecord tabulate stepBack reachingIn reaches onLoop firstOf slotBySlot unknownKind reservedField follows outOfSequence bitOutOfSequence undrivenField undrivenOperand kindStages fieldStages bitStages operandStages recordStages loopStages sizeGroup recordGroup loopGroup netlistStages checkStages gateCount visit visitMut hasEffects netlistOf encode ticketOf those anyOf joined sources outputOf iterCells cellDeps Netlist.run each down walk walkFrom bitDeps topoSort iterCellsTopo unchanged followed mapNetNew findNewCell applied didChange eqRecord eqCell seek keep keptSlots countKept netMap compact keyOf findOrInsertAll mergeCell mergeCells merging merge _orElse_ fromControl normalize ifNot ifAig ifXor notRule aigOfNot andAnd andWith aigOfAnd nandAnd xorOf nandNand nandWith aigOfNand xorAnd xorWith aigOfXor aigOrder aigRule andXor xorXor xorOrder xorRule simpleAigOpt stamp findCell entered finished weight rules process processCell addCell runItem runItems run rewrite netLevel cellLevel roundOf levelsIn levels givenLevels inputSlots outputSlots outputLevels put checkVerdict checkAnswer compactBytes compactVerdict compactAnswer compactReply mergeBytes mergeVerdict mergeAnswer mergeReply rewriteRun rewriteBytes rewriteStages rewriteVerdict rewriteAnswer rewriteReply levelBytes stimulusStages levelVerdict levelAnswer levelReply lines called computed printed starred corners tables AsPrinted given wanted trials AnsweredAsPrinted Fails WrongFail sortOf
+unfolding levelOf eqLevel eqNet leNet driver isAlways canonicalize notControl eqControl leControl word16 word32 bytes16 bytes32 kindOf fieldOf useOf isOperand isCombEdge edgeAt recordAt recordsOf bytesOf cellOf cellRecord tabulate stepBack reachingIn reaches onLoop firstOf slotBySlot unknownKind reservedField follows outOfSequence bitOutOfSequence undrivenField kindStages fieldStages bitStages operandStages recordStages loopStages sizeGroup recordGroup loopGroup netlistStages checkStages gateCount visit visitMut hasEffects netlistOf encode ticketOf those anyOf joined sources outputOf iterCells cellDeps Netlist.run each down walk walkFrom bitDeps topoSort iterCellsTopo unchanged followed mapNetNew findNewCell applied didChange eqRecord eqCell seek keep keptSlots countKept netMap compact keyOf findOrInsertAll mergeCell mergeCells merging merge _orElse_ fromControl normalize ifNot ifAig ifXor notRule aigOfNot andAnd andWith aigOfAnd nandAnd xorOf nandNand nandWith aigOfNand xorAnd xorWith aigOfXor aigOrder aigRule andXor xorXor xorOrder xorRule simpleAigOpt stamp findCell entered finished weight rules process processCell addCell runItem runItems run rewrite netLevel cellLevel roundOf levelsIn levels givenLevels inputSlots outputSlots outputLevels put checkVerdict checkAnswer compactBytes compactVerdict compactAnswer compactReply mergeBytes mergeVerdict mergeAnswer mergeReply rewriteRun rewriteBytes rewriteStages rewriteVerdict rewriteAnswer rewriteReply levelBytes stimulusStages levelVerdict levelAnswer levelReply lines called computed printed starred corners tables AsPrinted given wanted trials AnsweredAsPrinted Fails WrongFail sortOf
 as-printed = (
   refl,
   refl,
@@ -53,14 +53,18 @@ as-printed = (
   (
     λ e. let z : _≡_ {A = ℕ} 12 0 = ap (at 0) e in omega arith,
     λ e. let z : _≡_ {A = ℕ} 64 80 = ap (at 2) e in omega arith,
-    λ e. let z : _≡_ {A = ℕ} 5 2 = ap (at 36) e in omega arith,
+    λ e. let z : _≡_ {A = ℕ} 5 2 = ap (at 37) e in omega arith,
     λ e. let z : _≡_ {A = ℕ} 144 128 = ap (at 2) e in omega arith,
     λ e. let z : _≡_ {A = ℕ} 64 80 = ap (at 2) e in omega arith,
     λ e. let z : _≡_ {A = ℕ} 4 1 = ap (at 3) e in omega arith,
     λ e. let z : _≡_ {A = ℕ} 2 0 = ap (at 3) e in omega arith,
+    λ e. let z : _≡_ {A = ℕ} 3 2 = ap (at 4) e in omega arith,
+    λ e. let z : _≡_ {A = ℕ} 0 2 = ap (at 4) e in omega arith,
+    λ e. let z : _≡_ {A = ℕ} 2 0 = ap (at 4) e in omega arith,
+    λ e. let z : _≡_ {A = ℕ} 2 0 = ap (at 4) e in omega arith,
     λ e. let z : _≡_ {A = ℕ} 128 144 = ap (at 2) e in omega arith,
     λ e. let z : _≡_ {A = ℕ} 1 0 = ap (at 3) e in omega arith,
-    λ e. let z : _≡_ {A = ℕ} 2 3 = ap (at 40) e in omega arith,
+    λ e. let z : _≡_ {A = ℕ} 2 3 = ap (at 41) e in omega arith,
   ),
 )
 

@@ -1,5 +1,5 @@
 -- Calls that are turned away, and beside them the nearest that are not: number, answer words and reply at return (paper, "When a ticket is turned
--- away"; T12, T13, T15). Refusal 9 asks for more than 1,024 slots, which programs try (`replay`, `listings`). Assumes nothing: these are definitions.
+-- away"; T10, T12, T13, T15; requests 2026-03 and 2026-06). Refusal 9 asks for more than 1,024 slots, which programs try (`replay`, `listings`). Assumes nothing: these are definitions.
 use mathlib.Core.Path.{_≡_}
 use mathlib.Core.List.{List, [], _∷_, _++_, map}
 use Prim.Native.Nat.{ℕ}
@@ -12,15 +12,19 @@ use Rattle.refusals.specs.declared.Refusal.{Refusal}
 use Rattle.refusals.specs.declared.Refusal.the-variants.{ShortWork, PartialRecord, TooManyRecords, UnknownKind, ReservedField, BitOutOfSequence, UndrivenOperand, Loop, SlotsExhausted, LevelCount, LevelValue, ShortReply}
 use Rattle.calls.specs.Work.{cleared}
 use Rattle.calls.specs.Answers.{Told, refused, wordsOf}
-use Rattle.tickets.specs.Starred.{Call, checking, compacting, merging, rewriting, levels, called, words, T2, T3, T8-further, T9, T10-one}
+use Rattle.tickets.specs.Starred.{Call, checking, compacting, merging, rewriting, levels, called, words, T2, T3, T8-further, T9, T10, T10-one}
 
 -- the number, and the eight answer words
 abbrev pub toldLine : Told → List ℕ
 toldLine a = a .number ∷ wordsOf a
 
--- number, place, count, and the gate count or the flag, as they stand there
+-- number, place, count, and the gate count or the flag, as they stand there; the field, and all behind it, 0
 abbrev pub told : ℕ → ℕ → ℕ → ℕ → List ℕ
 told number place count extra = number ∷ place ∷ count ∷ extra ∷ 0 ∷ 0 ∷ 0 ∷ 0 ∷ 0 ∷ []
+
+-- refusal 7: place, and the field that fails (request 2026-06)
+abbrev pub toldField : ℕ → ℕ → List ℕ
+toldField place field = 7 ∷ place ∷ 0 ∷ 0 ∷ field ∷ 0 ∷ 0 ∷ 0 ∷ 0 ∷ []
 
 -- a row: call, work words, ticket and reply slice; the answer, and the reply at return
 abbrev pub Trial : Type 0
@@ -62,6 +66,10 @@ wide =
     ∷ two 5 1 1 1
     ∷ two 6 0 1 1
     ∷ two 6 1 1 1 ∷ two 7 0 1 1 ∷ two 7 1 1 1 ∷ recordOf 8 0 0 1 1 1 ∷ recordOf 8 0 1 1 1 1 ∷ []
+
+-- a mux whose operands b and c name no slot
+abbrev pub undrivenArms : List Record
+undrivenArms = recordOf 8 0 0 1 9 9 ∷ []
 
 -- a reply slice of so many bytes
 abbrev full : ℕ → List ℕ
@@ -107,17 +115,31 @@ trials =
     -- with one label, one select they are bits of a cell; other operands may differ
     ∷ checked (input 0 1 ∷ input 1 1 ∷ []) (told 0 0 2 0)
     ∷ checked (recordOf 8 0 0 1 0 0 ∷ recordOf 8 0 1 1 1 1 ∷ one 4 0 0 ∷ one 4 1 1 ∷ []) (told 0 0 4 2)
-    -- 7: no slot, or an output, also as the third operand
-    ∷ checked (one 4 0 3 ∷ []) (told 7 0 0 0)
-    ∷ checked (two 2 0 0 9 ∷ recordOf 8 0 0 0 0 2 ∷ []) (told 7 1 0 0)
+    -- 7: no slot, or an output, also as the third operand; an output that reads itself
+    ∷ checked (one 4 0 3 ∷ []) (toldField 0 1)
+    ∷ checked (two 2 0 0 9 ∷ recordOf 8 0 0 0 0 2 ∷ []) (toldField 1 3)
+    ∷ checked T10 (toldField 0 1)
+    -- the first field that fails: b of b and c, a of all three, b of an and-inverter; a select at bit 0; c of a lower record before a of a higher
+    ∷ checked undrivenArms (toldField 0 2)
+    ∷ checked (recordOf 8 0 0 9 9 9 ∷ []) (toldField 0 1)
+    ∷ checked (recordOf 9 3 0 1 9 0 ∷ []) (toldField 0 2)
+    ∷ checked (recordOf 8 0 0 9 1 1 ∷ recordOf 8 0 1 9 1 1 ∷ []) (toldField 0 1)
+    ∷ checked (recordOf 8 0 0 1 1 9 ∷ one 4 0 9 ∷ []) (toldField 0 3)
+    -- an operand on a loop does not fail
+    ∷ checked (two 5 0 2 9 ∷ []) (toldField 0 2)
+    -- every other call tells it
+    ∷ (levels [], words, ticketOf undrivenArms, full 2, toldField 0 2, full 2)
+    ∷ (compacting, words, ticketOf undrivenArms, full 2, toldField 0 2, full 2)
+    ∷ (merging, words, ticketOf undrivenArms, full 2, toldField 0 2, full 2)
+    ∷ (rewriting, words, ticketOf undrivenArms, full 2, toldField 0 2, full 2)
     -- the lowest faulty record decides, and in it the lowest number
-    ∷ checked (one 4 0 9 ∷ one 0 0 0 ∷ []) (told 7 0 0 0)
+    ∷ checked (one 4 0 9 ∷ one 0 0 0 ∷ []) (toldField 0 1)
     ∷ checked (recordOf 10 9 9 9 9 9 ∷ []) (told 4 0 0 0)
     ∷ checked (recordOf 4 1 1 9 0 0 ∷ []) (told 5 0 0 0)
     ∷ checked (one 4 1 9 ∷ []) (told 6 0 0 0)
     -- 8: the lowest record on a loop, once every record has passed
     ∷ checked (input 0 1 ∷ one 4 0 4 ∷ one 3 0 3 ∷ []) (told 8 1 0 0)
-    ∷ checked (one 3 0 2 ∷ one 4 0 9 ∷ []) (told 7 1 0 0)
+    ∷ checked (one 3 0 2 ∷ one 4 0 9 ∷ []) (toldField 1 1)
     -- T12: bit 1 reads bit 0
     ∷ checked (one 4 0 0 ∷ one 4 1 2 ∷ []) (told 0 0 2 0)
     -- 10: too few levels, too many; before 11 and 12, and 8 before it
@@ -138,7 +160,7 @@ trials =
     ∷ (rewriting, words, ticketOf T10-one, full 17, told 0 0 16 0, ticketOf T10-one ++ (255 ∷ []))
     ∷ []
 
--- every refusal, and its number and answer words; slots and bytes have the number 5
+-- every refusal, and its number and answer words; slots and bytes have the number 5, the field is 3, for c
 abbrev pub refusals : List Refusal
 refusals =
     ShortWork
@@ -147,7 +169,7 @@ refusals =
     ∷ UnknownKind (slotAt 5)
     ∷ ReservedField (slotAt 5)
     ∷ BitOutOfSequence (slotAt 5)
-    ∷ UndrivenOperand (slotAt 5)
+    ∷ UndrivenOperand (slotAt 5) 3
     ∷ Loop (slotAt 5)
     ∷ SlotsExhausted
     ∷ LevelCount
@@ -162,7 +184,7 @@ numbered =
     ∷ told 4 5 0 0
     ∷ told 5 5 0 0
     ∷ told 6 5 0 0
-    ∷ told 7 5 0 0
+    ∷ toldField 5 3
     ∷ told 8 5 0 0
     ∷ told 9 0 0 0
     ∷ told 10 0 0 0

@@ -206,7 +206,7 @@ starred =
     -- T9: a loop
     ∷ (checking, T9, (8 ∷ 0 ∷ 0 ∷ 0 ∷ []) ∷ [])
     ∷ (rewriting, T9, (8 ∷ 0 ∷ 0 ∷ []) ∷ [])
-    -- T10: an operand that names no slot, and a constant
+    -- T10: an output that reads itself, and one of a constant
     ∷ (checking, T10, (7 ∷ 0 ∷ 0 ∷ 0 ∷ []) ∷ [])
     ∷ (rewriting, T10, (7 ∷ 0 ∷ 0 ∷ []) ∷ [])
     ∷ (checking, T10-one, (0 ∷ 0 ∷ 1 ∷ 0 ∷ []) ∷ [])

@@ -1,16 +1,19 @@
--- Wrong programs that the paper names ("Conditions of acceptance", "Readings that tempt and are wrong", "A corner to copy"), and one that counts
--- gates as before request 2026-03, by what they answer and leave in the reply, and for each a ticket at which it does not do what the call does.
+-- Wrong programs that the paper names ("Conditions of acceptance", "Readings that tempt and are wrong", "A corner to copy"), one that counts
+-- gates as before request 2026-03, and some that tell another field than request 2026-06 has, by what they answer and leave in the reply, and for
+-- each a ticket at which it does not do what the call does.
 -- Other readings that tempt fail at rows of the tables: muxes with exchanged arms and control nets by net first in `corners`, loops by cell in
 -- `trials`. Assumes nothing: these are definitions.
 use mathlib.Core.Path.{_≡_}
 use mathlib.Core.Bool.{not}
-use mathlib.Core.List.{List, [], _∷_, map}
+use mathlib.Core.List.{List, [], _∷_, _++_, map}
 use Prim.Native.Nat.{ℕ, _/_}
 use lib.Dec.{ltb}
 use lib.ListN.{length, take}
 use Rattle.cell.specs.declared.Record.{Record}
-use Rattle.cell.specs.Records.{recordOf}
+use Rattle.cell.specs.Records.{recordOf, recordsOf}
 use Rattle.refusals.specs.declared.Refusal.the-variants.{ShortReply}
+use Rattle.refusals.specs.Refusals.{Stage, firstOf, slotBySlot}
+use Rattle.checking.specs.Checking.{kindStages, fieldStages, bitStages, operandStage, sizeGroup, loopGroup, gateCount}
 use Rattle.netlist.specs.Shape.{hasEffects}
 use Rattle.netlist.specs.Netlist.{Netlist, cellIn, ticketOf}
 use Rattle.basics.specs.Lists.{slots, those}
@@ -20,8 +23,9 @@ use Rattle.merge.specs.Merge.{keyOf, merge}
 use Rattle.rewrite.specs.Rewriter.{Lookup, begun}
 use Rattle.rewrite.specs.Rewrite.{runItems, compacted}
 use Rattle.calls.specs.Answers.{Told, refused, checkedBy, checkFigures, writtenBy, writtenFigures, mergedBy, mergedFigures}
-use Rattle.calls.specs.Calls.{decoded, encoded, replyAfter, checkVerdict, mergeBytes, mergeAnswer, mergeReply, rewriteBytes, rewriteAnswer, rewriteReply}
-use Rattle.tickets.specs.Starred.{Call, checking, merging, rewriting, called, words, reply, T2, T3, T5, T6, T7, T8}
+use Rattle.calls.specs.Calls.{decoded, encoded, replyAfter, checkVerdict, checkAnswer, mergeBytes, mergeAnswer, mergeReply, rewriteBytes, rewriteAnswer, rewriteReply}
+use Rattle.tickets.specs.Starred.{Call, checking, merging, rewriting, called, words, reply, T2, T3, T5, T6, T7, T8, T9}
+use Rattle.tickets.specs.Refused.{undrivenArms}
 
 -- by the ticket, with `words` and `reply`: the answer, and the reply at return
 abbrev pub Program : Type 0
@@ -69,6 +73,23 @@ countsAllAsGates t = (checkFigures (checkedBy (checkVerdict words t) (length t /
 abbrev pub chargesForInverters : Program
 chargesForInverters t = (checkFigures (checkedBy (checkVerdict words t) (length t / 16) (length (gatesIn (decoded t) (slots (length t / 16))))), reply)
 
+-- checks, and tests the fields of a record from c to a (request 2026-06 has it from a to c)
+abbrev pub fromTheLast : List Record → ℕ → List Stage
+fromTheLast rs s = kindStages rs s ++ fieldStages rs s ++ bitStages rs s ++ (operandStage rs s 3 ∷ operandStage rs s 2 ∷ operandStage rs s 1 ∷ [])
+
+abbrev pub testsFromTheLast : Program
+testsFromTheLast t =
+    let rs = recordsOf t in
+    let v = firstOf (sizeGroup words t ++ slotBySlot (fromTheLast rs) (length rs) ++ loopGroup rs) in
+    (checkFigures (checkedBy v (length t / 16) (gateCount rs)), reply)
+
+-- checks, and tells the same field whatever it answers; 0 is what was told before the request
+abbrev pub withField : ℕ → Told → Told
+withField f a = record { number = a .number; place = a .place; count = a .count; extra = a .extra; field = f }
+
+abbrev pub tellsAlways : ℕ → Program
+tellsAlways f t = (withField f (checkFigures (checkAnswer words t)), reply)
+
 -- looks up a cell with its replaced operands, where the Rust has the ticket's
 abbrev pub replacedOperands : Lookup
 replacedOperands d = findNewCell (record { cells = applied d; replaced = d .replaced })
@@ -105,6 +126,10 @@ WrongFail =
     × Fails rewriting countsTheTicket T3
     × Fails checking countsAllAsGates T2
     × Fails checking chargesForInverters T5
+    × Fails checking testsFromTheLast undrivenArms
+    × Fails checking (tellsAlways 0) undrivenArms
+    × Fails checking (tellsAlways 2) T9
+    × Fails checking (tellsAlways 2) T2
     × Fails rewriting looksThrough T6
     × Fails merging flagsWhereShorter T8
     × Fails merging writesKeys turned

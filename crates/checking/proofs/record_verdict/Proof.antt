@@ -1,5 +1,5 @@
 use native.Mathlib.Omega.{arith}
-use Rattle.checking.proofs.Records.{refuses-4, refuses-5, refuses-6, refuses-7, refuses-none}
+use Rattle.checking.proofs.Records.{refuses-4, refuses-5, refuses-6, operands-left}
 use borrow.Author.Needs.{needs}
 use Rattle.checking.proofs.record_verdict.Statement.{statement}
 use Rattle.checking.proofs.record_verdict.Tie as tie
@@ -7,7 +7,7 @@ use Rattle.checking.proofs.record_verdict.Reads as reads
 use Rattle.checking.proofs.record_verdict.Lts as lts
 use Rattle.cell.proofs.record_at.Reads as record-at-reads
 use Rattle.checking.proofs.out_of_sequence.Reads as out-of-sequence-reads
-use Rattle.checking.proofs.undriven_operand.Reads as undriven-operand-reads
+use Rattle.checking.proofs.operand_verdict.Reads as operand-verdict-reads
 use Rattle.checking.proofs.record_before.Reads as record-before-reads
 use Rattle.checking.proofs.reserved_field.Reads as reserved-field-reads
 use Rattle.checking.proofs.unknown_kind.Reads as unknown-kind-reads
@@ -45,16 +45,12 @@ returns-3 : tie.Need-returns-3
 returns-3 c = search refuses-6
 
 -- src/lib.rt
-undriven-operand-requires : tie.Need-undriven-operand-requires
-undriven-operand-requires c κs = search needs
+operand-verdict-requires : tie.Need-operand-verdict-requires
+operand-verdict-requires c κs = search needs
 
 -- src/lib.rt
 returns-4 : tie.Need-returns-4
-returns-4 c = search refuses-7
-
--- src/lib.rt
-returns-5 : tie.Need-returns-5
-returns-5 c = search refuses-none
+returns-4 c = search operands-left
 
 pub record-verdict-spec : {M : Type 1} → statement M
 record-verdict-spec =
@@ -68,6 +64,5 @@ record-verdict-spec =
     record-before-requires
     out-of-sequence-requires
     returns-3
-    undriven-operand-requires
-    returns-4
-    returns-5)
+    operand-verdict-requires
+    returns-4)
