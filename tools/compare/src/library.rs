@@ -101,11 +101,11 @@ impl Bench {
 
     /// The first way in which the call went wrong.
     pub fn fault(&self, refusal: u32, expected: &Answer) -> Option<&'static str> {
-        let Answer { place, count, extra, reply, .. } = expected;
+        let Answer { place, count, extra, field, reply, .. } = expected;
         let wiped = if self.work.len() < WORK_WORDS { 0 } else { WORK_WORDS };
         let tests = [
             (refusal == expected.refusal, "refusal number"),
-            (self.answer.content() == [*place, *count, *extra, 0, 0, 0, 0, 0], "answer words"),
+            (self.answer.content() == [*place, *count, *extra, *field, 0, 0, 0, 0], "answer words"),
             (self.answer.is_kept_behind(8), "bytes around the answer"),
             (self.reply.content().starts_with(reply), "reply bytes"),
             (self.reply.is_kept_behind(reply.len()), "bytes around or behind the reply"),

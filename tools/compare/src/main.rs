@@ -12,7 +12,7 @@ use oracle::list::{self, ASSIGNMENTS, Case};
 use oracle::{lister, ticket};
 
 const USAGE: &str =
-    "usage: compare [--request 2026-03|2026-05] [--calls check,compact,merge,rewrite,levels] SEED COUNT";
+    "usage: compare [--request 2026-03|2026-05|2026-06] [--calls check,compact,merge,rewrite,levels] SEED COUNT";
 
 fn main() -> ExitCode {
     let arguments: Vec<String> = std::env::args().skip(1).collect();
@@ -73,11 +73,12 @@ fn agree(case: &Case, call: Call, assignment: usize, draw: &mut Draw) -> Option<
     let mut bench = Bench::new(&case.ticket, lent, draw);
     let refusal = bench.run(&Calls::linked(), call);
     let Some(fault) = bench.fault(refusal, &expected) else { return Some(refusal) };
-    let Answer { refusal: number, place, count, extra, ref reply } = expected;
+    let Answer { refusal: number, place, field, count, extra, ref reply } = expected;
+    let figures = format!("refusal {number}, place {place}, count {count}, extra {extra}, field {field}");
     println!("{} differs: {fault}", call.name());
     println!("work {} words, reply {} bytes, levels {:?}", lent.work_words, lent.reply_bytes, lent.levels);
     println!("ticket of {} bytes\n{}", case.ticket.len(), lister::lines(&ticket::records(&case.ticket)));
-    println!("oracle: refusal {number}, place {place}, count {count}, extra {extra}\n{}", listing(call, reply));
+    println!("oracle: {figures}\n{}", listing(call, reply));
     let got = bench.answer_words();
     let written = bench.reply().len().min(got[1] as usize);
     println!("library: refusal {refusal}, answer {got:?}\n{}", listing(call, &bench.reply()[..written]));

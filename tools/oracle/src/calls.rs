@@ -1,4 +1,4 @@
-//! The five calls with all their refusals, as the paper words them.
+//! The five calls with all their refusals, as the paper and request 2026-06 word them.
 
 use crate::checking::{Refusal, check, refuse};
 use crate::ticket::{self, INPUT, MOST_SLOTS, Record};
@@ -49,6 +49,8 @@ impl Lent<'_> {
 pub struct Answer {
     pub refusal: u32,
     pub place: u32,
+    /// The refusal's field.
+    pub field: u32,
     /// Bytes of the reply; checking gives the record count.
     pub count: u32,
     /// Checking's gate count or merge's changed flag.
@@ -57,8 +59,8 @@ pub struct Answer {
 }
 
 impl From<Refusal> for Answer {
-    fn from(refusal: Refusal) -> Answer {
-        Answer { refusal: refusal.number, place: refusal.place, ..Answer::default() }
+    fn from(Refusal { number, place, field }: Refusal) -> Answer {
+        Answer { refusal: number, place, field, ..Answer::default() }
     }
 }
 

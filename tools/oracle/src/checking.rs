@@ -1,4 +1,4 @@
-//! Refusals 1 to 8, read from the paper.
+//! Refusals 1 to 8, read from the paper and request 2026-06.
 
 use crate::ticket::*;
 
@@ -8,10 +8,16 @@ pub const WORK_WORDS: usize = 16_384;
 pub struct Refusal {
     pub number: u32,
     pub place: u32,
+    /// With 7 the first field whose operand is loose: 1 for a, 2 for b, 3 for c. Otherwise 0.
+    pub field: u32,
 }
 
 pub fn refuse<T>(number: u32, place: usize) -> Result<T, Refusal> {
-    Err(Refusal { number, place: place as u32 })
+    refuse_field(number, place, 0)
+}
+
+fn refuse_field<T>(number: u32, place: usize, field: u32) -> Result<T, Refusal> {
+    Err(Refusal { number, place: place as u32, field })
 }
 
 /// The records of a ticket that checking accepts.
@@ -27,9 +33,7 @@ pub fn check(ticket: &[u8], work_words: usize) -> Result<Vec<Record>, Refusal> {
     }
     let records = records(ticket);
     for place in 0..records.len() {
-        if let Some(number) = record_fault(&records, place) {
-            return refuse(number, place);
-        }
+        check_record(&records, place)?;
     }
     match lowest_on_loop(&records) {
         Some(place) => refuse(8, place),
@@ -38,18 +42,18 @@ pub fn check(ticket: &[u8], work_words: usize) -> Result<Vec<Record>, Refusal> {
 }
 
 /// The lowest of refusals 4 to 7 that one record meets.
-fn record_fault(records: &[Record], place: usize) -> Option<u32> {
+fn check_record(records: &[Record], place: usize) -> Result<(), Refusal> {
     let record = &records[place];
     if !(INPUT..=AIG).contains(&record.kind) {
-        Some(4)
+        refuse(4, place)
     } else if is_spoilt(record) {
-        Some(5)
+        refuse(5, place)
     } else if is_broken_bus(records, place) {
-        Some(6)
-    } else if record.operands().any(|net| is_loose(records, net)) {
-        Some(7)
+        refuse(6, place)
+    } else if let Some(field) = loose_field(records, record) {
+        refuse_field(7, place, field)
     } else {
-        None
+        Ok(())
     }
 }
 
@@ -75,6 +79,11 @@ fn is_broken_bus(records: &[Record], place: usize) -> bool {
     // Field a is an input's label and a mux's select.
     let shares_a = matches!(record.kind, INPUT | MUX);
     before.kind != record.kind || before.bit != record.bit - 1 || (shares_a && before.a != record.a)
+}
+
+/// The first field whose operand is loose.
+fn loose_field(records: &[Record], record: &Record) -> Option<u32> {
+    (1..).zip(record.operands()).find(|&(_, net)| is_loose(records, net)).map(|(field, _)| field)
 }
 
 fn is_loose(records: &[Record], net: u32) -> bool {

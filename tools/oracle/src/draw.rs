@@ -53,12 +53,16 @@ const MIXES: [&[u8]; 5] =
 /// For request 2026-03: more than half of the gates are bufs and nots.
 const INVERTERS: &[u8] = &[BUF, BUF, BUF, NOT, NOT, NOT, AND, OR, XOR, MUX, AIG];
 
+/// For request 2026-06: three in five gates are muxes, since no other kind has a third operand.
+const MUXES: &[u8] = &[MUX, MUX, MUX, MUX, MUX, MUX, MUX, MUX, MUX, BUF, NOT, AND, OR, XOR, AIG];
+
 /// A change request for which the comparison has tickets of its own, since the common draw seldom meets what it is
 /// about.
 #[derive(Clone, Copy)]
 pub enum Request {
     GateCount,
     Renumbering,
+    LooseWire,
 }
 
 impl Request {
@@ -66,6 +70,7 @@ impl Request {
         match name {
             "2026-03" => Some(Request::GateCount),
             "2026-05" => Some(Request::Renumbering),
+            "2026-06" => Some(Request::LooseWire),
             _ => None,
         }
     }
@@ -376,12 +381,13 @@ pub fn accepted(draw: &mut Draw) -> Vec<Record> {
     ticket(draw, size)
 }
 
-/// A ticket that checking accepts, for a request if one is named.
+/// A ticket for a request, if one is named. Checking accepts it, unless it is drawn to be loose.
 pub fn requested(draw: &mut Draw, request: Option<Request>) -> Vec<Record> {
     match request {
         None => accepted(draw),
         Some(Request::GateCount) => inverters(draw),
         Some(Request::Renumbering) => scattered(draw),
+        Some(Request::LooseWire) => loosened(draw),
     }
 }
 
@@ -445,6 +451,77 @@ fn spread_bench(draw: &mut Draw) -> Vec<Record> {
         draw.shuffle(&mut order);
     }
     renumber(&records, &order)
+}
+
+/// For request 2026-06: loose operands in every field, often several in one record and in several records, now and then
+/// with another fault beside them. Some tickets are accepted still.
+fn loosened(draw: &mut Draw) -> Vec<Record> {
+    let size = size(draw).max(size(draw));
+    let style = Style { mix: MUXES, widest: draw.pick(&[1, 4, 4, 8]), ..Style::draw(draw) };
+    let mut records = styled(draw, size, style);
+    let readers: Vec<usize> = (0..size).filter(|&slot| records[slot].operand_count() > 0).collect();
+    if readers.is_empty() || draw.percent(12) {
+        return records;
+    }
+    let mut slot = 0;
+    for _ in 0..draw.pick(&[1, 1, 2, 3]) {
+        // Of two the one with more operands: that is mostly a mux.
+        let pair = [(); 2].map(|_| draw.pick(&readers));
+        slot = pair.into_iter().max_by_key(|&reader| records[reader].operand_count()).unwrap();
+        loosen(draw, &mut records, slot);
+    }
+    if draw.percent(40) {
+        let slot = if draw.percent(40) { slot } else { draw.below(size) };
+        add_fault(draw, &mut records, slot);
+    }
+    records
+}
+
+/// Loosens the operand of one field, each as often, and perhaps of fields behind it.
+fn loosen(draw: &mut Draw, records: &mut [Record], slot: usize) {
+    let last = records[slot].operand_count();
+    let first = draw.within(1, last);
+    let fields: Vec<usize> = (first..=last).filter(|&field| field == first || draw.percent(60)).collect();
+    for field in fields {
+        let net = loose_net(draw, records);
+        // The bits of a mux share their select; in one alone it breaks the bus.
+        let is_shared = records[slot].kind == MUX && field == 1 && draw.percent(90);
+        let bits = if is_shared { cell_at(records, slot) } else { slot..slot + 1 };
+        for record in &mut records[bits] {
+            *record.operands_mut().nth(field - 1).unwrap() = net;
+        }
+    }
+}
+
+/// An output's net, or one behind the last, just so or by far; a few are not loose, as the last net and undefined.
+fn loose_net(draw: &mut Draw, records: &[Record]) -> u32 {
+    let is_output = |slot: &usize| records[*slot].kind == OUTPUT;
+    let outputs: Vec<u32> = (0..records.len()).filter(is_output).map(net_of).collect();
+    let behind = net_of(records.len());
+    // Without its highest byte it would be a net of the ticket.
+    let far = net_of(draw.below(records.len())) + draw.pick(&[1 << 8, 1 << 16, 1 << 24, 1 << 31]);
+    match draw.below(10) {
+        0..4 if !outputs.is_empty() => draw.pick(&outputs),
+        0..7 => draw.pick(&[behind - 1, behind, behind, behind, behind + 1]),
+        _ => draw.pick(&[far, far, net_of(MOST_RECORDS), net_of(MOST_SLOTS), UNDEF - 1, UNDEF - 1, UNDEF]),
+    }
+}
+
+/// An unknown kind, a flag or field that is not used, a bit out of its place, or a record that reads itself.
+fn add_fault(draw: &mut Draw, records: &mut [Record], slot: usize) {
+    let net = loose_net(draw, records);
+    let record = &mut records[slot];
+    match draw.below(5) {
+        0 => record.kind = draw.pick(&[0, 10, 255]),
+        1 => record.flags |= 4,
+        2 if record.kind != MUX => record.c = net,
+        3 => record.bit += 1,
+        _ => {
+            if let Some(operand) = record.operands_mut().last() {
+                *operand = net_of(slot);
+            }
+        }
+    }
 }
 
 /// An accepted ticket torn, flipped or spliced; a few are accepted still.

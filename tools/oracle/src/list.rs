@@ -11,8 +11,8 @@ const ACCEPTED: usize = 10_000;
 const DAMAGED: usize = 2_000;
 /// Tickets with slices of other lengths than ample ones.
 const SCANT: usize = 400;
-/// Tickets drawn for request 2026-05.
-const RENUMBERED: usize = 200;
+/// Tickets drawn for each request that has some.
+const REQUESTED: usize = 200;
 pub const ASSIGNMENTS: usize = 3;
 
 /// A ticket with everything that is lent with it.
@@ -104,11 +104,13 @@ pub fn cases() -> Vec<Case> {
         let ticket = ticket::bytes(&accepted(&mut draw));
         cases.push(Case::scant(&mut draw, ticket));
     }
-    // A seed of its own, so that these can become more without a change of what stands before.
-    let mut draw = Draw(SEED + 5);
-    for _ in 0..RENUMBERED {
-        let ticket = ticket::bytes(&requested(&mut draw, Some(Request::Renumbering)));
-        cases.push(Case::ample(&mut draw, ticket));
+    // Seeds of their own, so that a request adds its tickets without a change of what stands before.
+    for (request, seed) in [(Request::Renumbering, SEED + 5), (Request::LooseWire, SEED + 6)] {
+        let mut draw = Draw(seed);
+        for _ in 0..REQUESTED {
+            let ticket = ticket::bytes(&requested(&mut draw, Some(request)));
+            cases.push(Case::ample(&mut draw, ticket));
+        }
     }
     cases
 }
@@ -124,9 +126,10 @@ fn put_words(file: &mut Vec<u8>, words: &[usize]) {
     words.iter().for_each(|&word| file.extend(u16::try_from(word).unwrap().to_le_bytes()));
 }
 
+/// The last word stands for an answer word that is 0 as yet.
 fn put_figures(file: &mut Vec<u8>, answer: &Answer) {
-    let Answer { refusal, place, count, extra, .. } = *answer;
-    put_words(file, &[refusal, place, count, extra].map(|word| word as usize));
+    let Answer { refusal, place, count, extra, field, .. } = *answer;
+    put_words(file, &[refusal, place, count, extra, field, 0].map(|word| word as usize));
 }
 
 fn put_answer(file: &mut Vec<u8>, answer: &Answer) {

@@ -15,11 +15,20 @@ pub fn lines(records: &[Record]) -> String {
     records.iter().enumerate().map(|(slot, record)| format!("{slot} {}\n", line(record))).collect()
 }
 
+/// A refusal with its place, and its field after a 7 only.
+pub fn refused(answer: &Answer) -> String {
+    let Answer { refusal, place, field, .. } = answer;
+    match refusal {
+        7 => format!("refused {refusal} {place} {field}"),
+        _ => format!("refused {refusal} {place}"),
+    }
+}
+
 pub fn list(given: &[u8]) -> String {
     let ticket = &given[..given.len().min(MOST_READ)];
-    let Answer { refusal, place, reply, .. } = answer(Call::Rewrite, ticket, Lent::AMPLE);
-    match refusal {
-        0 => lines(&ticket::records(&reply)),
-        _ => format!("refused {refusal} {place}\n"),
+    let answer = answer(Call::Rewrite, ticket, Lent::AMPLE);
+    match answer.refusal {
+        0 => lines(&ticket::records(&answer.reply)),
+        _ => refused(&answer) + "\n",
     }
 }

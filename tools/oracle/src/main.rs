@@ -114,7 +114,7 @@ fn put(bytes: &[u8]) {
 fn tell(answer: &Answer) {
     match answer.refusal {
         0 => eprintln!("accepted {} {}", answer.count, answer.extra),
-        number => eprintln!("refused {number} {}", answer.place),
+        _ => eprintln!("{}", lister::refused(answer)),
     }
 }
 

@@ -92,7 +92,7 @@ pub fn definite(arms: &str, records: &[Record]) -> String {
     format!("| {arms} | {ticket} | {result} | {} | {before} | {after} |", digits(&given))
 }
 
-/// Tables about the fixed list: refusals by call, sizes, and how often its tickets take each arm.
+/// Tables about the fixed list: refusals by call, fields of loose wires, sizes, and how often its tickets take each arm.
 pub fn report(cases: &[Case]) -> String {
     let mut taken = Counts::new();
     let mut sizes = [0; SIZES.len()];
@@ -114,11 +114,19 @@ pub fn report(cases: &[Case]) -> String {
     for (row, call) in refusals.iter().zip(CALLS) {
         writeln!(page, "| {} | {} |", call.name(), digits(row)).unwrap();
     }
+    page += &loose_fields(cases);
     page += "\n| records | tickets |\n|---|---|\n";
     for ((name, _), count) in SIZES.iter().zip(sizes) {
         writeln!(page, "| {name} | {count} |").unwrap();
     }
     format!("{page}\n{}", counts(&taken))
+}
+
+/// How often checking names each field with 7.
+fn loose_fields(cases: &[Case]) -> String {
+    let fields: Vec<u32> = cases.iter().map(|case| case.answer(Call::Check).field).collect();
+    let row = |field: u32| format!("| {field} | {} |\n", fields.iter().filter(|&&named| named == field).count());
+    format!("\n| field with 7 | tickets |\n|---|---|\n{}{}{}", row(1), row(2), row(3))
 }
 
 const SIZES: [(&str, usize); 6] =

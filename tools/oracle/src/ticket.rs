@@ -1,5 +1,7 @@
 //! Tickets as records, after the paper's table of kinds.
 
+use std::ops::Range;
+
 pub const INPUT: u8 = 1;
 pub const OUTPUT: u8 = 2;
 pub const BUF: u8 = 3;
@@ -103,6 +105,13 @@ pub fn bytes(records: &[Record]) -> Vec<u8> {
 
 pub fn count_kind(records: &[Record], kind: u8) -> usize {
     records.iter().filter(|record| record.kind == kind).count()
+}
+
+/// The slots of the cell that a record belongs to, in a ticket without a broken bus.
+pub fn cell_at(records: &[Record], slot: usize) -> Range<usize> {
+    let first = slot - records[slot].bit as usize;
+    let next_cell = (slot + 1..records.len()).find(|&later| records[later].bit == 0);
+    first..next_cell.unwrap_or(records.len())
 }
 
 /// Whether no two input cells, and no two outputs, have the same label.

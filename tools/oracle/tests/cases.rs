@@ -1,6 +1,6 @@
 //! The cases of crates/cases, whose file says how they are written: the oracle answers what they expect.
 
-use oracle::calls::{Call, Lent, answer};
+use oracle::calls::{Answer, Call, Lent, answer};
 use oracle::ticket::{Record, UNDEF};
 
 const CASES: &str = include_str!("../../../crates/cases/data/cases");
@@ -46,7 +46,9 @@ fn the_oracle_answers_as_the_cases_expect() {
     for case in lines.chunk_by(|_, line| !is_head(line)) {
         let figures: Vec<u32> = case[0].split_whitespace().skip(1).map(number).collect();
         let lent = Lent { work_words: figures[0] as usize, ..Lent::AMPLE };
-        let answered = answer(Call::Check, &ticket(&case[1..]), lent);
-        assert_eq!([answered.refusal, answered.place, answered.count, answered.extra], figures[1..], "{}", case[0]);
+        let Answer { refusal, place, count, extra, field, .. } = answer(Call::Check, &ticket(&case[1..]), lent);
+        let mut answered = vec![refusal, place, count, extra];
+        answered.extend(Some(field).filter(|&field| field != 0));
+        assert_eq!(answered, figures[1..], "{}", case[0]);
     }
 }

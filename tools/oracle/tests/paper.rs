@@ -1,4 +1,4 @@
-//! Tickets T1 to T15 as the paper prints them, and the gate count as request 2026-03 words it.
+//! Tickets T1 to T15 as the paper and request 2026-06 print them, and the gate count as request 2026-03 words it.
 
 use oracle::calls::{Answer, CALLS, Call, Lent, answer};
 use oracle::lister::list;
@@ -87,6 +87,7 @@ fn t9_t10_loop_and_loose() {
     assert_eq!(figures(call(Call::Check, "T9")), (8, 0));
     assert_eq!(figures(call(Call::Check, "T10")), (7, 0));
     assert_eq!(figures(call(Call::Check, "T10 of one")), (0, 0));
+    assert_eq!([listed("T9"), listed("T10")], ["refused 8 0\n", "refused 7 0 1\n"]);
 }
 
 #[test]

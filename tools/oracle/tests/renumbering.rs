@@ -5,7 +5,7 @@ use std::ops::{Range, RangeInclusive};
 
 use oracle::calls::{Call, Lent, answer};
 use oracle::draw::{Draw, Request, accepted, requested};
-use oracle::ticket::{self, MOST_RECORDS, MOST_SLOTS, NOT, OUTPUT, Record, net_of, slot_of};
+use oracle::ticket::{self, MOST_RECORDS, MOST_SLOTS, NOT, OUTPUT, Record, cell_at, net_of, slot_of};
 use oracle::{beside, paper, text};
 
 /// An accepted ticket, what is kept of it, and the tally before each slot and behind the last.
@@ -13,13 +13,6 @@ struct Compacting {
     records: Vec<Record>,
     kept: Vec<bool>,
     tallies: Vec<usize>,
-}
-
-/// The slots of the cell that a record belongs to.
-fn cell_at(records: &[Record], slot: usize) -> Range<usize> {
-    let first = slot - records[slot].bit as usize;
-    let next_cell = (slot + 1..records.len()).find(|&later| records[later].bit == 0);
-    first..next_cell.unwrap_or(records.len())
 }
 
 /// Inputs, outputs and whole cells that these reach, through any bit of a kept cell.
