@@ -32,7 +32,7 @@ fn main() {
     let arms = Arms::read(&here.join("arms.tsv"));
     for name in ["aig", "normalize"] {
         let counted = format!("{name}_counted");
-        write(&out, &counted, &arms.count(name, &read(&out.join(format!("{name}.rs")))));
+        write(&out, &counted, &arms.count(name, &read(&generic.join(format!("rewrite/{name}.rs")))));
         modules += &declare(&out, &counted);
     }
     modules += &arms.table();

@@ -26,11 +26,12 @@ impl Case {
 
 type Make = fn(usize) -> Vec<Record>;
 
-const WORST: [(&str, Make); 13] = [
+const WORST: [(&str, Make); 14] = [
     ("chain", chain),
     ("chain, readers first", |size| renumber(&chain(size), &(0..size).rev().collect::<Vec<_>>())),
     ("ladder", ladder),
     ("all reached, operands far", far),
+    ("muxes", muxes),
     ("one wide cell", wide),
     ("one wide cell that reads itself", wide_chain),
     ("eight wide cells", wide_cells),
@@ -81,6 +82,11 @@ fn ladder(size: usize) -> Vec<Record> {
 /// first.
 fn far(size: usize) -> Vec<Record> {
     framed(2, size, |slot| Record::new(AND, net_of(slot - 1), net_of(slot / 2), 0))
+}
+
+/// Each reads the three records before: as many operands as records can have.
+fn muxes(size: usize) -> Vec<Record> {
+    framed(3, size, |slot| Record::new(MUX, net_of(slot - 1), net_of(slot - 2), net_of(slot - 3)))
 }
 
 fn wide(size: usize) -> Vec<Record> {

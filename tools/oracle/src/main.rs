@@ -6,7 +6,7 @@ use std::process::ExitCode;
 
 use oracle::arms::{self, Counts};
 use oracle::calls::{Answer, Call, Lent, answer};
-use oracle::draw::{self, Draw};
+use oracle::draw::{self, Draw, Request};
 use oracle::{ARMS, list, lister, page, search, text, ticket};
 
 const USAGE: &str = "usage: oracle COMMAND < ticket
@@ -19,6 +19,7 @@ without a ticket:
   arms SEED COUNT FILE                a smallest ticket for each arm and order that drawn tickets and the file's meet
   exhaust                             how often each arm is taken over every ticket of two small families
   count SEED COUNT                    how often each arm is taken over drawn tickets
+  draw REQUEST SEED COUNT DIR         tickets as the comparison draws them for a request, a file each
   build-list DIR                      the files of the fixed list
   report                              tables about the fixed list: refusals, sizes, arms
   arms-page                           docs/ARMS.md
@@ -33,6 +34,7 @@ fn main() -> ExitCode {
         ["pack"] => put(&ticket::bytes(&text::records(&String::from_utf8(given()).unwrap()))),
         ["levels", digits] => levels(digits),
         ["build-list", folder] => build_list(folder),
+        ["draw", name, seed, count, folder] => draw_tickets(name, number(seed), number(count), folder),
         ["report"] => print!("{}", page::report(&list::cases())),
         ["arms-page"] => print!("{}", page::arms()),
         ["exhaust"] => exhaust(),
@@ -71,6 +73,15 @@ fn build_list(folder: &str) {
     create_dir_all(folder).expect("the folder");
     for (name, bytes) in list::files(&list::cases()) {
         write(format!("{folder}/{name}"), bytes).expect("a file of the list");
+    }
+}
+
+fn draw_tickets(name: &str, seed: u64, count: u64, folder: &str) {
+    let request = Request::from_name(name).expect("a request");
+    let mut draw = Draw(seed);
+    create_dir_all(folder).expect("the folder");
+    for index in 0..count {
+        write(format!("{folder}/{index}"), list::drawn(&mut draw, Some(request)).ticket).expect("a ticket's file");
     }
 }
 
