@@ -1,7 +1,9 @@
 /* shrink compact|merge|rewrite: shrinks the ticket on standard input and writes the result to standard output; a
  * refusal goes to standard error. */
+#include <stdio.h>
 #include <string.h>
-#include "refused.h"
+#include "cabbagetier.h"
+#include "refusal.h"
 
 typedef uint32_t call(const uint8_t *, size_t, uint32_t *, size_t, uint8_t *, size_t, uint32_t[8]);
 
@@ -19,7 +21,7 @@ static int shrink(call *run)
     size_t len = fread(ticket, 1, sizeof ticket, stdin);
     uint32_t number = run(ticket, len, work, 16384, reply, sizeof reply, answer);
     if (number != 0)
-        return refused(stderr, number, answer);
+        return tell_refusal(stderr, number, answer);
     fwrite(reply, 1, answer[1], stdout);
     return 0;
 }

@@ -35,10 +35,11 @@
  * or flag not 0; 6 bit not 0, and the record is an output or an and-inverter, or none stands before it, or the one
  * before has another kind, or another bit than one less, or, in an input, another label, or, in a mux, another select;
  * 7 an operand is no constant and names no slot, or an output's; 8 a bit reaches itself through operands. 4 to 7: the
- * lowest faulty record decides, and within it the lowest number; the place is that record. 7: of its fields the first
- * that fails is told, in the order a, b, c. 8: the place is the lowest record on a loop. 9 rewriting needs more than 1,024 slots, the ticket's and each cell that it adds, also one that is
- * left out in the end; 10 levels given differ in number from input records; 11 a level byte above 2, the place its
- * index, the lowest such; 12 the reply is too short for the result. The place of all others is 0.
+ * lowest faulty record decides, and within it the lowest number; the place is that record. 7: answer[3] is the first
+ * of its fields that fails, in the order a, b, c. 8: the place is the lowest record on a loop. 9 rewriting needs more
+ * than 1,024 slots, the ticket's and each cell that it adds, also one that is left out in the end; 10 levels given
+ * differ in number from input records; 11 a level byte above 2, the place its index, the lowest such; 12 the reply is
+ * too short for the result. The place of all others is 0.
  * The first in the order of a call's line below decides.
  *
  * A reply is written from its start, as many bytes as answer[1] says; later bytes keep their content. A refusal changes

@@ -6,7 +6,6 @@ use Prim.Native.Nat.{ℕ, _/_}
 use lib.Dec.{eqb, ltb}
 use lib.ListN.{length, getD, drop}
 use Rattle.logic.specs.Levels.{byteOf}
-use Rattle.cell.specs.declared.Record.{Record}
 use Rattle.cell.specs.declared.Cell.{Cell}
 use Rattle.cell.specs.Records.{recordsOf}
 use Rattle.netlist.specs.Netlist.{Netlist, netlistOf, encode, ticketOf}

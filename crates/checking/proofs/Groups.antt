@@ -1,10 +1,11 @@
 -- The groups of the stages of checking, by their names: all stages pass exactly if each group does, the first group that refuses decides, and
--- what it means that a group passes. A group that is put in is said here, and where that group itself is spoken of. Assumes nothing.
+-- what it means that a group passes; which field 7 names; the numbers that each group gives. A group that is put in is said here, and where
+-- that group itself is spoken of. Assumes nothing.
 use mathlib.Core.Path.{_≡_, refl, sym, _∙_, subst}
 use mathlib.Core.Bool.{Bool, true, false, not, false≢true}
-use mathlib.Core.Logic.{_↔_, ⊎-elim}
+use mathlib.Core.Logic.{_↔_, _⊎_, ⊎-elim}
 use mathlib.Core.List.{List, _++_}
-use Prim.Native.Nat.{ℕ, _/_, _%_, _<_, _≤_}
+use Prim.Native.Nat.{ℕ, _/_, _%_, _<_}
 use native.Mathlib.Omega.{arith}
 use lib.Dec.{eqb, ltb}
 use lib.ListN.{length}
@@ -19,21 +20,21 @@ use Rattle.loops.specs.Reach.{onLoop}
 use Rattle.refusals.specs.declared.Refusal.{Refusal}
 use Rattle.refusals.specs.declared.Refusal.the-variants.{UndrivenOperand}
 use Rattle.refusals.specs.declared.Verdict.the-variants.{Pass, Refused}
-use Rattle.refusals.specs.Refusals.{Stage, figures, firstOf}
+use Rattle.refusals.specs.Refusals.{Stage, firstOf}
 use Rattle.checking.specs.Checking.{unknownKind, reservedField, bitOutOfSequence, undrivenField, kindStage, fieldStage, bitStage, operandStage, loopStage, workStage, lengthStage, sizeStage, kindStages, fieldStages, bitStages, operandStages, recordStages, loopStages, sizeGroup, recordGroup, loopGroup, netlistStages, checkStages}
-use Rattle.refusals.proofs.Stages.{passed-exactly, one-exactly, later-decides, earlier-decides, passes-both, both-exactly, first-refuses, first-passes, passes-not, refused-inj, slots-exactly, EachGives, both-give, slots-give, each-imp}
+use Rattle.refusals.proofs.Stages.{passed-exactly, one-exactly, later-decides, earlier-decides, passes-both, both-exactly, first-refuses, first-passes, passes-not, refused-inj, slots-exactly, EachGives, both-give, slots-give, Within, each-imp}
 
 -- ---- the fields of one record
 module _ (rs : List Record) (r : Record) where
   -- a field that fails is a, b or c
-  pub undriven-operand : (f : ℕ) → undrivenField rs r f ≡ true → isOperand r f ≡ true
+  pub failing-field : (f : ℕ) → undrivenField rs r f ≡ true → (f ≡ 1) ⊎ ((f ≡ 2) ⊎ (f ≡ 3))
   unfolding undrivenField
-  undriven-operand f e = either (isOperand r f) (λ o. o) (λ o. absurd (false≢true (sym (rw o) ∙ e)))
+  failing-field f e = either (isOperand r f) (operand-field r f) (λ o. absurd (false≢true (sym (rw o) ∙ e)))
 
   -- so that one does not fail is asked of these alone
   driven-by : (f : ℕ) → (f ≡ 1 → undrivenField rs r 1 ≡ false) → (f ≡ 2 → undrivenField rs r 2 ≡ false) → (f ≡ 3 → undrivenField rs r 3 ≡ false)
       → undrivenField rs r f ≡ false
-  driven-by f a b c = either (undrivenField rs r f) (λ e. ⊎-elim (at 1 a) (⊎-elim (at 2 b) (at 3 c)) (operand-field r f (undriven-operand f e))) (λ e. e)
+  driven-by f a b c = either (undrivenField rs r f) (λ e. ⊎-elim (at 1 a) (⊎-elim (at 2 b) (at 3 c)) (failing-field f e)) (λ e. e)
     where
       at : (k : ℕ) → (f ≡ k → undrivenField rs r k ≡ false) → f ≡ k → undrivenField rs r f ≡ false
       at k h q = subst (λ (j : ℕ). undrivenField rs r j ≡ false) (sym q) (h q)
@@ -83,21 +84,21 @@ module _ (rs : List Record) (s : ℕ) where
   abbrev Names : ℕ → Type 0
   Names f = firstOf (operandStages rs s) ≡ Refused (UndrivenOperand (slotAt s) f)
 
-  pub first-field : undrivenField rs (recordIn rs s) 1 ≡ true → Names 1
+  pub first-field : undriven-at 1 ≡ true → Names 1
   unfolding operandStages
   first-field a = first-refuses (operandStage rs s 1) _ a
 
-  pub second-field : undrivenField rs (recordIn rs s) 1 ≡ false → undrivenField rs (recordIn rs s) 2 ≡ true → Names 2
+  pub second-field : undriven-at 1 ≡ false → undriven-at 2 ≡ true → Names 2
   unfolding operandStages
   second-field a b = first-passes (operandStage rs s 1) _ a ∙ first-refuses (operandStage rs s 2) _ b
 
-  pub third-field : undrivenField rs (recordIn rs s) 1 ≡ false → undrivenField rs (recordIn rs s) 2 ≡ false → undrivenField rs (recordIn rs s) 3 ≡ true → Names 3
+  pub third-field : undriven-at 1 ≡ false → undriven-at 2 ≡ false → undriven-at 3 ≡ true → Names 3
   unfolding operandStages
   third-field a b c = first-passes (operandStage rs s 1) _ a ∙ first-passes (operandStage rs s 2) _ b ∙ first-refuses (operandStage rs s 3) _ c
 
   -- the group names the least field that fails
   pub names-least : (f : ℕ) → undriven-at f ≡ true → ((g : ℕ) → g < f → undriven-at g ≡ false) → Names f
-  names-least f fails least = ⊎-elim (at 1 one) (⊎-elim (at 2 two) (at 3 three)) (operand-field (recordIn rs s) f (undriven-operand rs (recordIn rs s) f fails))
+  names-least f fails least = ⊎-elim (at 1 one) (⊎-elim (at 2 two) (at 3 three)) (failing-field rs (recordIn rs s) f fails)
     where
       one : undriven-at 1 ≡ true → f ≡ 1 → Names 1
       one h q = first-field h
@@ -132,13 +133,13 @@ pub record RecordPasses (rs : List Record) (s : ℕ) : Type 0 where
   pub operands : firstOf (operandStages rs s) ≡ Pass
 
 module _ (rs : List Record) (s : ℕ) where
-  abbrev upto-fields : List Stage
+  abbrev pub upto-fields : List Stage
   upto-fields = kindStages rs s ++ fieldStages rs s
 
-  abbrev upto-bits : List Stage
+  abbrev pub upto-bits : List Stage
   upto-bits = upto-fields ++ bitStages rs s
 
-  pub record-exactly : (firstOf (recordStages rs s) ≡ Pass) ↔ RecordPasses rs s
+  record-exactly : (firstOf (recordStages rs s) ≡ Pass) ↔ RecordPasses rs s
   unfolding recordStages
   record-exactly = (
     λ e.
@@ -254,40 +255,36 @@ module _ (words : ℕ) (t : List ℕ) where
   sizes-passed e = later-decides (sizeGroup words t) (netlistStages (recordsOf t)) e
 
 -- ---- the numbers that a group gives
-abbrev pub AtMost : ℕ → Refusal → Type 0
-AtMost n x = figures x .number ≤ n
-
 module _ (rs : List Record) where
-  pub tests-give : (s : ℕ) → EachGives (AtMost 6) (kindStages rs s ++ fieldStages rs s ++ bitStages rs s)
+  pub tests-give : (s : ℕ) → EachGives (Within 4 6) (upto-bits rs s)
   unfolding kindStages fieldStages bitStages
   tests-give s = (omega arith, (omega arith, (omega arith, tt)))
 
-  pub record-gives : (s : ℕ) → EachGives (AtMost 7) (recordStages rs s)
+  record-gives : (s : ℕ) → EachGives (Within 4 7) (recordStages rs s)
   unfolding recordStages operandStages
   record-gives s =
-      both-give (AtMost 7) (kindStages rs s ++ fieldStages rs s ++ bitStages rs s) (operandStages rs s)
-      (each-imp (AtMost 6) (AtMost 7) (λ x l. omega arith) (kindStages rs s ++ fieldStages rs s ++ bitStages rs s) (tests-give s))
+      both-give (Within 4 7) (upto-bits rs s) (operandStages rs s) (each-imp (Within 4 6) (Within 4 7) (λ x l. omega arith) (upto-bits rs s) (tests-give s))
       (omega arith, (omega arith, (omega arith, tt)))
 
-  pub loops-give : EachGives (λ x. figures x .number ≡ 8) (loopGroup rs)
+  pub loops-give : EachGives (Within 8 8) (loopGroup rs)
   unfolding loopGroup loopStages
-  loops-give = slots-give (λ x. figures x .number ≡ 8) (loopStages rs) (λ s. (refl, tt)) (length rs)
+  loops-give = slots-give (Within 8 8) (loopStages rs) (λ s. (omega arith, tt)) (length rs)
 
-  pub netlist-gives : EachGives (AtMost 8) (netlistStages rs)
+  netlist-gives : EachGives (Within 4 8) (netlistStages rs)
   unfolding netlistStages recordGroup
   netlist-gives =
-      both-give (AtMost 8) (recordGroup rs) (loopGroup rs)
-      (each-imp (AtMost 7) (AtMost 8) (λ x l. omega arith) (recordGroup rs) (slots-give (AtMost 7) (recordStages rs) record-gives (length rs)))
-      (each-imp (λ x. figures x .number ≡ 8) (AtMost 8) (λ x l. omega arith) (loopGroup rs) loops-give)
+      both-give (Within 4 8) (recordGroup rs) (loopGroup rs)
+      (each-imp (Within 4 7) (Within 4 8) (λ x l. omega arith) (recordGroup rs) (slots-give (Within 4 7) (recordStages rs) record-gives (length rs)))
+      (each-imp (Within 8 8) (Within 4 8) (λ x l. omega arith) (loopGroup rs) loops-give)
 
 module _ (words : ℕ) (t : List ℕ) where
-  pub sizes-give : EachGives (AtMost 3) (sizeGroup words t)
+  pub sizes-give : EachGives (Within 1 3) (sizeGroup words t)
   unfolding sizeGroup
   sizes-give = (omega arith, (omega arith, (omega arith, tt)))
 
-  -- checking gives 1 to 8
-  pub check-gives : EachGives (AtMost 8) (checkStages words t)
+  pub check-gives : EachGives (Within 1 8) (checkStages words t)
   unfolding checkStages
   check-gives =
-      both-give (AtMost 8) (sizeGroup words t) (netlistStages (recordsOf t))
-      (each-imp (AtMost 3) (AtMost 8) (λ x l. omega arith) (sizeGroup words t) sizes-give) (netlist-gives (recordsOf t))
+      both-give (Within 1 8) (sizeGroup words t) (netlistStages (recordsOf t))
+      (each-imp (Within 1 3) (Within 1 8) (λ x l. omega arith) (sizeGroup words t) sizes-give)
+      (each-imp (Within 4 8) (Within 1 8) (λ x l. omega arith) (netlistStages (recordsOf t)) (netlist-gives (recordsOf t)))

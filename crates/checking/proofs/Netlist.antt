@@ -1,12 +1,13 @@
 -- From the tests of single records to the search for loops, and its answer as stages. Assumes nothing.
 use mathlib.Core.Path.{_≡_, refl, sym, ap, _∙_, subst}
-use mathlib.Core.Bool.{Bool, true, false, cond, not, _&&_, _||_}
+use mathlib.Core.Bool.{Bool, true, false, cond, not, _&&_}
 use mathlib.Core.List.{List, [], _∷_}
 use Prim.Native.Nat.{ℕ, _/_, _%_, _<_, _≤_}
 use native.Mathlib.Omega.{arith}
 use lib.Dec.{ltb}
 use lib.ListN.{length, drop}
 use borrow.Author.Tests.{ltb-true, lt-ltb, le-ltb, eq-eqb, ne-eqb}
+use Rattle.basics.proofs.Truth.{neither}
 use Rattle.value.specs.declared.Slot.{Slot}
 use Rattle.value.specs.declared.Driver.{Driver}
 use Rattle.value.specs.declared.Driver.the-variants as driven
@@ -31,10 +32,6 @@ use Rattle.checking.specs.Checking.{undriven, undrivenField, loopStage, 
 use Rattle.refusals.proofs.Stages.{first-refuses, first-passes, one-exactly, slots-exactly, slots-refused}
 use Rattle.checking.proofs.Groups.{operand-exactly, loop-exactly, records-exactly, loops-exactly, netlist-exactly, records-decide, records-passed, sizes-decide, sizes-passed}
 
-either-false : (a b : Bool) → a || b ≡ false → (a ≡ false) × (b ≡ false)
-either-false true b e = let z : _≡_ {A = ℕ} 0 1 = cc in absurd (omega arith)
-either-false false b e = (refl, e)
-
 not-nowhere : (x : Slot) → Nowhere ≡ To x → ⊥
 not-nowhere x e = let z : _≡_ {A = ℕ} 0 1 = cc in absurd (omega arith)
 
@@ -48,7 +45,7 @@ module _ (rs : List Record) (r : Record) (f : ℕ) (x : Slot) where
       go : (b : Bool) → ltb (s .0) (length rs) ≡ b → x .0 < length rs
       go true h = let q : s ≡ x = cc in subst (λ (y : Slot). y .0 < length rs) q (ltb-true _ _ h)
       go false h =
-          let z : not (ltb (s .0) (length rs)) ≡ false = either-false (not (ltb (s .0) (length rs))) _ g .0 in
+          let z : not (ltb (s .0) (length rs)) ≡ false = neither (not (ltb (s .0) (length rs))) _ g .0 in
           let w : _≡_ {A = ℕ} 0 1 = cc in absurd (omega arith)
 
   field-inside : undrivenField rs r f ≡ false → edgeAt r f ≡ To x → x .0 < length rs

@@ -58,7 +58,7 @@ module _ (rs : List Record) (r : Record) where
     unfolding undrivenField
     field-other e = rw (← b-is, e)
 
--- the four groups of a record, a test each, in their order
+-- the groups of a record: the operands field by field, then 4, 5 and 6, behind which the operands are left
 module _ (t : List ℕ) (n : ℕ) (s : Slot) (e : n ≡ length t / 16) (h : s .0 < n) (r : Record) (q : r ≡ recordAt t (s .0)) where
   abbrev rs : List Record
   rs = recordsOf t

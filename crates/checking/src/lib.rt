@@ -8,7 +8,6 @@ use value::Driver;
 use value::Net;
 use value::Slot;
 ghost use mathlib.Core.Path.{_≡_};
-ghost use mathlib.Core.Bool.{_&&_, _||_};
 ghost use Prim.Native.Nat.{_-_, _/_, _≤_, _<_};
 ghost use lib.ListN.{length, drop};
 ghost use Rattle.cell.specs.Records.{recordAt, recordsOf};

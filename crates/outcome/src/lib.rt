@@ -7,7 +7,7 @@ pub use digest::Sums;
 pub use tally::Tally;
 
 // What a call answers: the number that it returns and its first five answer words. The last of these
-// is kept for later and 0 today, as are the others.
+// is kept for later: it is 0 today, as are the three words behind it.
 pub struct Figures {
     pub number: u32,
     pub place: u32,

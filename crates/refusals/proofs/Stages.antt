@@ -3,7 +3,7 @@ use mathlib.Core.Path.{_≡_, refl, sym, ap, _∙_, subst}
 use mathlib.Core.Bool.{Bool, true, false}
 use mathlib.Core.Logic.{_↔_, _⊎_, inl, inr, ⊎-elim}
 use mathlib.Core.List.{List, [], _∷_, _++_}
-use Prim.Native.Nat.{ℕ, zero, suc, _+_, _<_}
+use Prim.Native.Nat.{ℕ, zero, suc, _+_, _<_, _≤_}
 use native.Mathlib.Omega.{arith}
 use native.Mathlib.Numerals.{add-one}
 use native.Mathlib.Decide.{decLt}
@@ -12,7 +12,7 @@ use Rattle.refusals.specs.declared.Refusal.{Refusal}
 use Rattle.refusals.specs.declared.Refusal.the-variants.{ShortWork}
 use Rattle.refusals.specs.declared.Verdict.{Verdict}
 use Rattle.refusals.specs.declared.Verdict.the-variants.{Pass, Refused}
-use Rattle.refusals.specs.Refusals.{Stage, firstOf, slotBySlot}
+use Rattle.refusals.specs.Refusals.{Stage, figures, firstOf, slotBySlot}
 
 -- the first stage decides, or is passed over
 pub first-refuses : (st : Stage) (sts : List Stage) → st .0 ≡ true → firstOf (st ∷ sts) ≡ Refused (st .1)
@@ -264,6 +264,10 @@ module _ (P : Refusal → Type 0) where
 
   pub given-such : (sts : List Stage) (r : Refusal) → EachGives sts → firstOf sts ≡ Refused r → P r
   given-such sts r e f = subst GivesSuch f (first-gives sts e)
+
+-- a refusal's number is in a range, both ends included
+abbrev pub Within : ℕ → ℕ → Refusal → Type 0
+Within least most r = (least ≤ figures r .number) × (figures r .number ≤ most)
 
 pub each-imp : (P Q : Refusal → Type 0) → ((r : Refusal) → P r → Q r) → (sts : List Stage) → EachGives P sts → EachGives Q sts
 each-imp P Q f [] e = tt

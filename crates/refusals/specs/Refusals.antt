@@ -11,8 +11,8 @@ use Rattle.refusals.specs.declared.Figures.{Figures}
 abbrev pub figuresAt : ℕ → ℕ → ℕ → Figures
 figuresAt number place field = record { number = number; place = place; field = field }
 
--- number, place and field of each refusal, and the paper's word for it. Refusal 7 has, beside its place, the first field that fails: 1 for a, 2 for b,
--- 3 for c; for all others the field is 0 (request 2026-06)
+-- number, place and field of each refusal, and the paper's word for it. The field is that of the operand for which 7 is given, 1 for a, 2 for
+-- b, 3 for c, and 0 for all others (request 2026-06); which one that is the stages say (`operandStages`, crate `checking`)
 abbrev pub figures : Refusal → Figures
 figures ShortWork = figuresAt 1 0 0  -- short bench
 figures PartialRecord = figuresAt 2 0 0  -- torn

@@ -3,16 +3,16 @@ use mathlib.Core.Path.{_≡_, refl, sym, _∙_, subst}
 use mathlib.Core.List.{List, _++_}
 use Prim.Native.Nat.{ℕ, _<_}
 use native.Mathlib.Omega.{arith}
-use lib.ListN.{length}
 use Rattle.cell.specs.declared.Cell.{Cell}
 use Rattle.refusals.specs.declared.Refusal.{Refusal}
 use Rattle.refusals.specs.declared.Verdict.{Verdict}
 use Rattle.refusals.specs.declared.Verdict.the-variants.{Pass, Refused}
 use Rattle.refusals.specs.Refusals.{Stage, figures, firstOf}
-use Rattle.refusals.proofs.Stages.{later-decides, earlier-decides, EachGives, GivesSuch, both-give, slots-give, first-gives, each-imp}
+use Rattle.refusals.proofs.Stages.{later-decides, earlier-decides, EachGives, GivesSuch, both-give, first-gives, Within, each-imp}
 use Rattle.checking.specs.Checking.{checkStages}
-use Rattle.checking.proofs.Groups.{AtMost, check-gives}
+use Rattle.checking.proofs.Groups.{check-gives}
 use Rattle.calls.specs.Calls.{stimulusStages}
+use Rattle.calls.proofs.Later.{stimulus-gives}
 
 abbrev Before12 : Refusal → Type 0
 Before12 x = figures x .number < 12
@@ -35,11 +35,9 @@ early-then xs ys e f = go (firstOf xs) refl
 
 -- ---- the stages of the calls
 pub check-early : (words : ℕ) (t : List ℕ) → Early (checkStages words t)
-check-early words t = each-imp (AtMost 8) Before12 (λ x l. omega arith) (checkStages words t) (check-gives words t)
-
-stimulus-early : (cs : List Cell) (stimulus : List ℕ) → Early (stimulusStages cs stimulus)
-unfolding stimulusStages
-stimulus-early cs stimulus = (omega arith, slots-give Before12 _ (λ s. (omega arith, tt)) (length stimulus))
+check-early words t = each-imp (Within 1 8) Before12 (λ x l. omega arith) (checkStages words t) (check-gives words t)
 
 pub both-early : (words : ℕ) (t : List ℕ) (cs : List Cell) (stimulus : List ℕ) → Early (checkStages words t ++ stimulusStages cs stimulus)
-both-early words t cs stimulus = both-give Before12 (checkStages words t) (stimulusStages cs stimulus) (check-early words t) (stimulus-early cs stimulus)
+both-early words t cs stimulus =
+    both-give Before12 (checkStages words t) (stimulusStages cs stimulus) (check-early words t)
+    (each-imp (Within 10 11) Before12 (λ x l. omega arith) (stimulusStages cs stimulus) (stimulus-gives cs stimulus))

@@ -2,7 +2,6 @@
 use cell::Record;
 use refusals::Refusal;
 ghost use Prim.Native.Nat.{_+_, _*_, _≤_};
-ghost use mathlib.Core.List.{_∷_, []};
 ghost use lib.ListN.{length};
 ghost use Rattle.lines.specs.Decimal.{decimal};
 ghost use Rattle.lines.specs.Lines.{toEnd, recordLine, refusalLine};

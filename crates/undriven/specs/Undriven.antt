@@ -14,13 +14,13 @@ use Rattle.calls.specs.Answers.{Told, checkFigures, writtenFigures, mergedFigur
 use Rattle.calls.specs.Calls.{checkAnswer, levelAnswer, compactAnswer, mergeAnswer, rewriteAnswer}
 
 -- with so many work words a ticket passes 1 to 3, its records below s pass 4 to 7, that of s passes 4, 5 and 6, and f is the first of its
--- fields that fails 7, 1 for a, 2 for b, 3 for c; what fails is one of these (`undriven-operand`, `checking/proofs/Groups.antt`)
+-- fields that fails 7, 1 for a, 2 for b, 3 for c; no other fails (`failing-field`, `checking/proofs/Groups.antt`)
 pub record UndrivenAt (words : ℕ) (t : List ℕ) (s f : ℕ) : Type 0 where
   pub sizes : firstOf (sizeGroup words t) ≡ Pass
   pub there : s < length (recordsOf t)
   pub lower : (i : ℕ) → i < s → firstOf (recordStages (recordsOf t) i) ≡ Pass
   pub kind : unknownKind (recordIn (recordsOf t) s) ≡ false  -- 4
-  pub unused : reservedField (recordIn (recordsOf t) s) ≡ false  -- 5
+  pub reserved : reservedField (recordIn (recordsOf t) s) ≡ false  -- 5
   pub bit : bitOutOfSequence (recordsOf t) s ≡ false  -- 6
   pub fails : undrivenField (recordsOf t) (recordIn (recordsOf t) s) f ≡ true
   pub least : (g : ℕ) → g < f → undrivenField (recordsOf t) (recordIn (recordsOf t) s) g ≡ false

@@ -487,10 +487,12 @@ fn loosen(draw: &mut Draw, records: &mut [Record], slot: usize) {
         // The bits of a mux share their select; in one alone it breaks the bus.
         let is_shared = records[slot].kind == MUX && field == 1 && draw.percent(90);
         let bits = if is_shared { cell_at(records, slot) } else { slot..slot + 1 };
-        for record in &mut records[bits] {
-            *record.operands_mut().nth(field - 1).unwrap() = net;
-        }
+        records[bits].iter_mut().for_each(|record| set_operand(record, field, net));
     }
+}
+
+fn set_operand(record: &mut Record, field: usize, net: u32) {
+    *record.operands_mut().nth(field - 1).unwrap() = net;
 }
 
 /// An output's net, or one behind the last, just so or by far; a few are not loose, as the last net and undefined.
@@ -498,7 +500,7 @@ fn loose_net(draw: &mut Draw, records: &[Record]) -> u32 {
     let is_output = |slot: &usize| records[*slot].kind == OUTPUT;
     let outputs: Vec<u32> = (0..records.len()).filter(is_output).map(net_of).collect();
     let behind = net_of(records.len());
-    // Without its highest byte it would be a net of the ticket.
+    // Cut to 8, 16, 24 or 31 bits it is mostly a net of the ticket.
     let far = net_of(draw.below(records.len())) + draw.pick(&[1 << 8, 1 << 16, 1 << 24, 1 << 31]);
     match draw.below(10) {
         0..4 if !outputs.is_empty() => draw.pick(&outputs),

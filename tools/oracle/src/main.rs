@@ -19,7 +19,7 @@ without a ticket:
   arms SEED COUNT FILE                a smallest ticket for each arm and order that drawn tickets and the file's meet
   exhaust                             how often each arm is taken over every ticket of two small families
   count SEED COUNT                    how often each arm is taken over drawn tickets
-  draw REQUEST SEED COUNT DIR         tickets as the comparison draws them for a request, a file each
+  draw REQUEST SEED COUNT DIR         tickets drawn for a request by the comparison's rules, a file each
   build-list DIR                      the files of the fixed list
   report                              tables about the fixed list: refusals, sizes, arms
   arms-page                           docs/ARMS.md
