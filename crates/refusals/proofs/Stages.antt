@@ -181,7 +181,7 @@ module _ (stages : ℕ → List Stage) where
           let q : i ≡ n = omega arith in
           subst (λ (k : ℕ). Refused r ≡ firstOf (slotBySlot stages k ++ stages k)) q (f ∙ sym (later-decides (slotBySlot stages i) (stages i) (sym e)))
 
-  pub slots-passed : (n i : ℕ) → firstOf (slotBySlot stages n) ≡ Pass → i < n → firstOf (stages i) ≡ Pass
+  slots-passed : (n i : ℕ) → firstOf (slotBySlot stages n) ≡ Pass → i < n → firstOf (stages i) ≡ Pass
   unfolding slotBySlot
   slots-passed zero i e l = absurd (omega arith)
   slots-passed (suc n) i e l = go (λ p m. slots-passed n i p m) (decLt i n)

@@ -1,14 +1,15 @@
 //! Request 2026-06 read once more, over a ticket's bytes, beside `checking`: which field is loose, in every call.
 
-use std::ops::RangeInclusive;
+mod request;
 
 use oracle::calls::{Answer, CALLS, Call, Lent, answer};
 use oracle::checking::{Refusal, check};
-use oracle::draw::{Draw, Request, requested};
+use oracle::draw::{Draw, Request};
 use oracle::list::{self, ASSIGNMENTS};
 use oracle::lister::{self, MOST_READ};
 use oracle::ticket::{self, INPUT, Record};
 use oracle::{paper, text};
+use request::Have;
 
 /// Of a kind: the fields that are nets, those that are labels, and the flags.
 type Row = (&'static [usize], &'static [usize], u64);
@@ -232,17 +233,11 @@ fn the_papers_tickets() {
     assert_eq!(compared(&[0; 17]), [2, 0, 0]);
 }
 
-fn request() -> Option<Request> {
-    let request = Request::from_name("2026-06");
-    assert!(request.is_some());
-    request
-}
-
+const REQUEST: &str = "2026-06";
 const DRAWN: usize = 5000;
 
 fn drawn_for_the_request(seed: u64) -> Vec<Vec<u8>> {
-    let mut draw = Draw(seed);
-    (0..DRAWN).map(|_| ticket::bytes(&requested(&mut draw, request()))).collect()
+    request::drawn(REQUEST, seed, DRAWN).iter().map(|records| ticket::bytes(records)).collect()
 }
 
 #[test]
@@ -257,7 +252,7 @@ fn tickets_drawn_for_the_request() {
 fn cases_drawn_for_the_request() {
     let mut draw = Draw(10);
     for _ in 0..DRAWN {
-        let case = list::drawn(&mut draw, request());
+        let case = list::drawn(&mut draw, Request::from_name(REQUEST));
         for call in CALLS {
             (0..ASSIGNMENTS).for_each(|assignment| compare(call, &case.ticket, case.lent(call, assignment)));
         }
@@ -344,7 +339,7 @@ impl Drawn {
 }
 
 /// How many of 5,000 tickets drawn for the request have what they are drawn for.
-const HAVE: [(&str, fn(&Drawn) -> bool, RangeInclusive<usize>); 21] = [
+const HAVE: [Have<Drawn>; 21] = [
     ("7", |drawn| drawn.is_refused(7), 2750..=3750),
     ("7 in field 1", |drawn| drawn.names_field(1), 600..=2000),
     ("7 in field 2", |drawn| drawn.names_field(2), 600..=2000),
@@ -375,9 +370,5 @@ fn the_draw_has_what_the_request_is_about() {
         Drawn { ticket, figures: [checked.refusal, checked.place, checked.field] }
     };
     let tickets: Vec<Drawn> = drawn_for_the_request(11).into_iter().map(drawn).collect();
-    for (name, has, bounds) in HAVE {
-        let count = tickets.iter().filter(|drawn| has(drawn)).count();
-        println!("{name}: {count}");
-        assert!(bounds.contains(&count), "{name}: {count}");
-    }
+    request::assert_have(&tickets, &HAVE);
 }

@@ -1,12 +1,15 @@
 //! Compacting read once more, from module 6 of the paper and request 2026-05, beside the Rust's `compact`. A record's
 //! new slot is found in two ways: by counting the kept records before it afresh, and by a tally kept while walking.
 
-use std::ops::{Range, RangeInclusive};
+mod request;
+
+use std::ops::Range;
 
 use oracle::calls::{Call, Lent, answer};
-use oracle::draw::{Draw, Request, accepted, requested};
+use oracle::draw::{Draw, accepted};
 use oracle::ticket::{self, MOST_RECORDS, MOST_SLOTS, NOT, OUTPUT, Record, cell_at, net_of, slot_of};
 use oracle::{beside, paper, text};
+use request::Have;
 
 /// An accepted ticket, what is kept of it, and the tally before each slot and behind the last.
 struct Compacting {
@@ -277,10 +280,7 @@ fn drawn_tickets() {
 }
 
 fn drawn_for_the_request(seed: u64) -> Vec<Vec<Record>> {
-    let request = Request::from_name("2026-05");
-    assert!(request.is_some());
-    let mut draw = Draw(seed);
-    (0..3000).map(|_| requested(&mut draw, request)).collect()
+    request::drawn("2026-05", seed, 3000)
 }
 
 #[test]
@@ -301,7 +301,7 @@ fn results_stay_as_they_are() {
 }
 
 /// How many of 3,000 tickets drawn for the request have what they are drawn for.
-const HAVE: [(&str, fn(&Compacting) -> bool, RangeInclusive<usize>); 9] = [
+const HAVE: [Have<Compacting>; 9] = [
     ("some record moves", Compacting::some_record_moves, 2850..=3000),
     ("some operand falls otherwise than its reader", Compacting::some_operand_falls_otherwise, 2700..=3000),
     ("falls by four amounts or more", Compacting::falls_by_many_amounts, 1500..=3000),
@@ -318,11 +318,7 @@ fn the_draw_has_what_the_request_is_about() {
     let tickets = drawn_for_the_request(8);
     assert!(tickets.iter().all(|records| is_accepted(records)));
     let tickets: Vec<Compacting> = tickets.into_iter().map(Compacting::of).collect();
-    for (name, has, bounds) in HAVE {
-        let count = tickets.iter().filter(|compacting| has(compacting)).count();
-        println!("{name}: {count}");
-        assert!(bounds.contains(&count), "{name}: {count}");
-    }
+    request::assert_have(&tickets, &HAVE);
     let repeats = tickets.iter().filter(|compacting| !ticket::has_separate_labels(&compacting.records)).count();
     assert!(repeats <= 60, "{repeats}");
 }
