@@ -7,6 +7,8 @@
 // - resolution: two inverted ands that differ in one sign (aig_arms)
 // - xor: two inverted ands that make one (aig_arms); a xor with an operand of the and, or of the xor, that it reads (xor_gate)
 // - and, or: split into and-inverter and inverter (rewriter_cycle: `rewrite_and`, `rewrite_or`)
+#![tactic(auto)]
+
 ghost use Rattle.std.specs.Prelude.{◌≡◌};
 ghost use Rattle.normalize.specs.declared.Outcome.TheVariants.{Value};
 ghost use Rattle.aig.specs.Aig.{if_not, not_rule};
@@ -18,19 +20,19 @@ use value::{ControlNet, Net};
 pub mod source;
 
 // What the rules ask of a looked-up cell.
-#[derive(Drop)]
+#[derive(Clone, Copy)]
 pub enum Inverter {
     Of(Net),
     Other,
 }
 
-#[derive(Drop)]
+#[derive(Clone, Copy)]
 pub enum AndInverter {
     Of(ControlNet, ControlNet),
     Other,
 }
 
-#[derive(Drop)]
+#[derive(Clone, Copy)]
 pub enum XorGate {
     Of(Net, Net),
     Other,

@@ -1,6 +1,8 @@
 // The arms of `Cell::Aig` of `SimpleAigOpt` by the cell that a is of: an and, the inverse of an and, a xor. Apart from the rule that asks for
 // them, so that each proves in less time. a and b are the operands, aa and ab those of the cell that a is of, ba and bb those of the cell that b
 // is of; `.._either` asks in both orders of two operands.
+#![tactic(auto)]
+
 ghost use Rattle.std.specs.Prelude.{◌≡◌};
 ghost use Rattle.value.specs.Value.{not_control, eq_control};
 ghost use Rattle.aig.specs.Aig.{differ as differ_of};

@@ -1,1 +1,2 @@
 // Laws of the rules: there is no code here.
+#![tactic(auto)]

@@ -1,5 +1,7 @@
 // `Cell::Aig` of `SimpleAigOpt`. a and b are its operands, aa and ab those of the cell that a is of, ba and bb those of the cell that b is of.
 // Rules are asked for in the order of the definition, and the first that applies decides. The arms are in `aig_arms`.
+#![tactic(auto)]
+
 ghost use Rattle.std.specs.Prelude.{◌≡◌, false, not, ◌||◌};
 ghost use Rattle.value.specs.Value.{from_net_invert, is_positive, is_negative, is_always, not_control, eq_control};
 ghost use Rattle.cell.specs.declared.Cell.TheVariants.{Aig};

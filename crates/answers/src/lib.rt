@@ -1,4 +1,6 @@
 // The answers of the calls put into the eight answer words for C.
+#![tactic(auto)]
+
 ghost use Rattle.std.specs.Prelude.{◌≡◌};
 ghost use Rattle.calls.specs.Answers.{accepted, refused, check_figures, written_figures, merged_figures, words_of};
 

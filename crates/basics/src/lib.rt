@@ -1,4 +1,6 @@
 // What all crates use: connectives of truth values as calls, and readers and writers of slices that are total.
+#![tactic(auto)]
+
 ghost use Rattle.std.specs.Prelude.{◌≡◌, cond, ◌&&◌, ◌||◌, get_or, set};
 
 // The connectives of truth values as calls: a test that is put together of them has no branch.

@@ -1,4 +1,6 @@
 // The file `cases`, which says how they are written: a case read, and its ticket built.
+#![tactic(auto)]
+
 mod build;
 mod text;
 

@@ -1,5 +1,7 @@
 // Runs the cases of the file `cases`, which says how they are written, and prints a line for each
 // that differs from what it expects.
+#![tactic(auto)]
+
 use outcome::{Outcome, Tally};
 
 fn tell_name(text: &[u8], from: usize) {

@@ -1,5 +1,7 @@
 // Records of a ticket and one-bit cells, after cell.rs. A record is read out of a slot that the ticket has, and
 // written into one that the reply has: no byte of it is tested for.
+#![tactic(auto)]
+
 ghost use Rattle.std.specs.Prelude.{◌≡◌, ◌+◌, ◌*◌, ◌/◌, ◌≤◌, ◌<◌, length, get_or, set};
 ghost use Rattle.std.proofs.lemmas.List.Edits.{sets};
 ghost use Rattle.cell.specs.Bytes.{word16, word32, store16, store32};
@@ -10,7 +12,7 @@ use kinds::Sort;
 use value::{ControlNet, Driver, Net, Slot};
 
 // The 16 bytes of a slot, field by field.
-#[derive(Drop)]
+#[derive(Clone, Copy)]
 pub struct Record {
     pub kind: u8,
     pub flags: u8,
@@ -21,14 +23,14 @@ pub struct Record {
 }
 
 // Where an operand leads: to a slot, or nowhere for a constant or a field that is no such operand.
-#[derive(Drop)]
+#[derive(Clone, Copy)]
 pub enum Edge {
     To(Slot),
     Nowhere,
 }
 
 // One bit of a cell, by value (cell.rs, `Cell`, with labels in place of names).
-#[derive(Drop)]
+#[derive(Clone, Copy)]
 pub enum Cell {
     Input(u32),
     Output(Net, u32),

@@ -1,5 +1,7 @@
 // The cell order, after netlist/src/design.rs: the cells of a netlist, sources first, then operands before readers, outputs last. The walk
 // and its areas in the work slice are those of `order`.
+#![tactic(auto)]
+
 ghost use Rattle.std.specs.Prelude.{◌≡◌, false, [], ◌∷◌, ◌+◌, ◌≤◌, ◌<◌, length, get_or};
 ghost use Rattle.netlist.specs.Shape.{is_source, is_output};
 ghost use Rattle.netlist.specs.Netlist.{start_of};

@@ -1,4 +1,6 @@
 // Checking: refusals 1 to 8, or the counts of an accepted ticket.
+#![tactic(auto)]
+
 ghost use Rattle.std.specs.Prelude.{◌≡◌, ◌/◌, ◌≤◌, length};
 ghost use Rattle.cell.specs.Records.{records_of};
 ghost use Rattle.checking.specs.Checking.{gate_count};

@@ -1,4 +1,6 @@
 // Checking: refusals 1 to 8 of the paper's table.
+#![tactic(auto)]
+
 ghost use Rattle.std.specs.Prelude.{◌≡◌, ◌-◌, ◌/◌, ◌≤◌, ◌<◌, length, drop};
 ghost use Rattle.cell.specs.Records.{record_at, records_of};
 ghost use Rattle.refusals.specs.Refusals.{first_of, slot_by_slot};

@@ -1,4 +1,6 @@
 // `Design::compact`, after its `apply`: inputs, outputs and the cells that they reach, slot after slot, under new numbers.
+#![tactic(auto)]
+
 ghost use Rattle.std.specs.Prelude.{◌≡◌, ◌*◌, ◌≤◌, ◌<◌, length};
 ghost use Rattle.std.proofs.lemmas.List.Edits.{sets};
 ghost use Rattle.order.specs.inner.Code.{Ready, Walks};

@@ -1,4 +1,6 @@
 // Compacting: inputs, outputs and the whole cells that they reach.
+#![tactic(auto)]
+
 ghost use Rattle.std.specs.Prelude.{◌≡◌, length};
 ghost use Rattle.calls.specs.Work.{cleared};
 ghost use Rattle.calls.specs.Calls.{compact_bytes, compact_answer, compact_reply};

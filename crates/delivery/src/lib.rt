@@ -1,4 +1,6 @@
 // What the calls have in common: their shell, which checks the ticket and wipes the work slice; a netlist put into the reply.
+#![tactic(auto)]
+
 ghost use Rattle.std.specs.Prelude.{◌≡◌, ◌≤◌, length};
 ghost use Rattle.calls.specs.Work.{wiped, cleared};
 ghost use Rattle.delivery.specs.inner.Delivery.{Delivers, Begins, compacted_in};

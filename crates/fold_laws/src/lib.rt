@@ -1,1 +1,2 @@
 // Theorems on folds in the bit order; no code.
+#![tactic(auto)]

@@ -1,1 +1,2 @@
 // What compacting and merging keep: there is no code here.
+#![tactic(auto)]

@@ -1,12 +1,14 @@
 // The kind table: of what sort the cell of a record is, what its fields hold, and what else a kind says of it. No other crate knows a
 // kind by its number.
+#![tactic(auto)]
+
 ghost use Rattle.std.specs.Prelude.{◌≡◌, not, eqb};
 ghost use Rattle.kinds.specs.Kinds.{sort_of, row_of, kind_table, kind_of, use_of, is_operand_use, is_used, commutes, is_source_sort};
 
 use basics::{both, either};
 
 // What a kind keeps in a field: nothing (the field is 0), a label, or an operand, which is a net.
-#[derive(Drop)]
+#[derive(Clone, Copy)]
 pub enum Use {
     Unused,
     Label,
@@ -14,7 +16,7 @@ pub enum Use {
 }
 
 // The sorts of cells, in the order of their kind numbers.
-#[derive(Drop)]
+#[derive(Clone, Copy)]
 pub enum Sort {
     Unknown,
     Input,
@@ -47,7 +49,7 @@ pub const MUX: u8 = 8;
 pub const AIG: u8 = 9;
 
 // A row of the kind table.
-#[derive(Drop)]
+#[derive(Clone, Copy)]
 pub struct Kind {
     pub known: bool,
     pub a: Use,

@@ -1,4 +1,6 @@
 // Levels of a netlist: the evaluator.
+#![tactic(auto)]
+
 ghost use Rattle.std.specs.Prelude.{◌≡◌, cond, ◌+◌, ◌≤◌, ◌<◌, length, get_or, set};
 ghost use Rattle.logic.specs.Levels.{byte_of, level_of};
 ghost use Rattle.netlist.specs.inner.Areas.{records_in, words_in, order_at, figures_at, Within, mixes_at, visited_at};

@@ -1,4 +1,6 @@
 // Levels of the outputs for a stimulus.
+#![tactic(auto)]
+
 ghost use Rattle.std.specs.Prelude.{◌≡◌, cond, ◌≤◌, length};
 ghost use Rattle.kinds.specs.declared.Sort.TheVariants as sort;
 ghost use Rattle.kinds.specs.Kinds.{number_of};

@@ -1,1 +1,2 @@
 // Laws of valuations: there is no code here.
+#![tactic(auto)]

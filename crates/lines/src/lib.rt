@@ -1,1 +1,2 @@
 // The lines that the lister prints: there is no code here.
+#![tactic(auto)]

@@ -1,4 +1,6 @@
 // What the lister does: reads a ticket, rewrites it and prints a line for each record of the result.
+#![tactic(auto)]
+
 ghost use Rattle.std.specs.Prelude.{◌≡◌, ◌≤◌, length, take};
 ghost use Rattle.io.specs.Counts.{IsPrefixLen};
 ghost use Rattle.lines.specs.Lines.{lines_of};

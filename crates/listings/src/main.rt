@@ -1,5 +1,7 @@
 // Lists tickets of several lengths as the lister does, each behind its name and before the number of bytes that it
 // leaves in the file; then two calls that fail, one where nothing can be read and one where nothing can be written.
+#![tactic(auto)]
+
 use libc::STDOUT_FILENO;
 
 fn tell_left(fd: i32) {

@@ -1,5 +1,6 @@
 // Litter: what lent slices hold at entry. Every word of it could be a slot, a net or a mark, none is
 // 0, neighbours differ, and so does what a place holds from seed to seed.
+#![tactic(auto)]
 
 pub fn first(seed: u32) -> u32 {
     seed % 1031 + 1

@@ -1,8 +1,10 @@
 // Levels: zero, one and undefined, and the operations on them. After netlist/src/logic.rs.
+#![tactic(auto)]
+
 ghost use Rattle.std.specs.Prelude.{◌≡◌, ◌&&◌, ◌||◌, cond};
 ghost use Rattle.logic.specs.Levels.{not_level, and_level, or_level, xor_level, mux_level, eq_level, byte_of, level_of};
 
-#[derive(Drop)]
+#[derive(Clone, Copy)]
 pub enum Trit {
     Zero,
     One,

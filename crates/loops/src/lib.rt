@@ -1,5 +1,7 @@
 // The search for loops (refusal 8): a bit that reaches itself through operands. A walk from a slot goes down its edges and
 // marks the slots in the first words of the work slice: 0 not visited, 1 open, and from 2 on finished, by the stamp of a clock.
+#![tactic(auto)]
+
 ghost use Rattle.std.specs.Prelude.{◌≡◌, ◌≤◌, ◌<◌, length};
 ghost use Rattle.cell.specs.Records.{record_at, records_of};
 ghost use Rattle.loops.specs.inner.Search.{Searchable, Finds};
@@ -9,13 +11,13 @@ use cell::{Edge, Record};
 use value::Slot;
 
 // Which open slots end a walk that meets them: each, or one.
-#[derive(Drop)]
+#[derive(Clone, Copy)]
 enum Stop {
     Any,
     At(Slot),
 }
 
-#[derive(Drop)]
+#[derive(Clone, Copy)]
 pub enum Found {
     At(Slot),
     Nothing,

@@ -1,4 +1,6 @@
 // Merging of equal cells, after generic/src/merge.rs. The keys that were looked for and not found are the numberer's.
+#![tactic(auto)]
+
 ghost use Rattle.std.specs.Prelude.{◌≡◌, ◌+◌, ◌-◌, ◌≤◌, ◌<◌, length};
 ghost use Rattle.cell.specs.Records.{cell_record};
 ghost use Rattle.netlist.specs.inner.Areas.{store_words, keys_at};

@@ -1,4 +1,6 @@
 // Merging: equal cells made one, and the result compacted.
+#![tactic(auto)]
+
 ghost use Rattle.std.specs.Prelude.{◌≡◌, ◌/◌, length};
 ghost use Rattle.calls.specs.Work.{cleared};
 ghost use Rattle.calls.specs.Calls.{merge_answer, merge_reply};

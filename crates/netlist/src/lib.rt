@@ -1,5 +1,7 @@
 // Which cells have effects, which are sources or outputs; and a netlist in the words of the work slice: its records, read and written
 // slot by slot.
+#![tactic(auto)]
+
 ghost use Rattle.std.specs.Prelude.{◌≡◌, ◌*◌, ◌/◌, ◌≤◌, ◌<◌, length};
 ghost use Rattle.cell.specs.Records.{cell_of, records_of};
 ghost use Rattle.netlist.specs.Shape.{is_source, is_output, has_effects};

@@ -1,1 +1,2 @@
 // Normal netlists, which rewriting and merging leave as they are: there is no code here.
+#![tactic(auto)]

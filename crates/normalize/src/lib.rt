@@ -1,4 +1,6 @@
 // What a rule gives (netlist/src/rewrite.rs, `RewriteResult`), and `Normalize` (generic/src/rewrite/normalize.rs).
+#![tactic(auto)]
+
 ghost use Rattle.std.specs.Prelude.{◌≡◌};
 ghost use Rattle.value.specs.Value.{le_net, le_control};
 ghost use Rattle.normalize.specs.Outcomes.{◌or_else◌, applies as applies_of, given as given_of, from_control};
@@ -8,7 +10,7 @@ use cell::Cell;
 use value::{ControlNet, Net};
 
 // A rule adds a cell in three ways; metadata apart, the others are the Rust's own.
-#[derive(Drop)]
+#[derive(Clone, Copy)]
 pub enum Outcome {
     None,
     // The net in the cell's place.

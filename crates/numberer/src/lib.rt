@@ -1,5 +1,7 @@
 // The numberer: the map from a cell to the net that holds it, `Numberer` of generic/src/merge.rs and the cache of netlist/src/rewrite.rs.
 // Its entries are keys in an area of the work slice, each as a record whose bit is the slot of the cell.
+#![tactic(auto)]
+
 ghost use Rattle.std.specs.Prelude.{◌≡◌, ◌+◌, ◌≤◌, ◌<◌, length, set};
 ghost use Rattle.cell.specs.Records.{cell_of};
 ghost use Rattle.netlist.specs.inner.Areas.{word_record, store_words, numberer_at, mixes_at};
@@ -12,7 +14,7 @@ use netlist::area;
 use value::{Net, Slot};
 
 // What a search for a cell gives: the net that holds it.
-#[derive(Drop)]
+#[derive(Clone, Copy)]
 pub enum Found {
     Nothing,
     At(Net),

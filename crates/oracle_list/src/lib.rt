@@ -1,4 +1,6 @@
 // The fixed list of docs/ORACLE.md: its files, and their entries.
+#![tactic(auto)]
+
 mod entry;
 mod files;
 

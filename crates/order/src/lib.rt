@@ -1,5 +1,7 @@
 // The bit order, after netlist/src/design.rs: the bits of a netlist, operands before readers. The marks of the walk and the order stand
 // in areas of the work slice behind the records.
+#![tactic(auto)]
+
 ghost use Rattle.std.specs.Prelude.{◌≡◌, false, [], ◌∷◌, ◌≤◌, length};
 ghost use Rattle.cell.specs.Records.{cell_of};
 ghost use Rattle.netlist.specs.inner.Areas.{word_record, records_in};
@@ -10,7 +12,7 @@ use netlist::{area, fields};
 use value::{Driver, Net, Slot};
 
 // The nets that a cell reads, by field; a constant where there is none.
-#[derive(Drop)]
+#[derive(Clone, Copy)]
 pub struct Operands(pub Net, pub Net, pub Net);
 
 // Those of a slot's cell, from the fields of its record.

@@ -1,1 +1,2 @@
 // Laws of the orders: there is no code here.
+#![tactic(auto)]

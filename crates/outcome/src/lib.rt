@@ -1,5 +1,7 @@
 // What a trial comes to: the figures and the reply of a call, held to those expected, and what
 // differs told and counted.
+#![tactic(auto)]
+
 mod digest;
 mod tally;
 

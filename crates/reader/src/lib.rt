@@ -1,5 +1,7 @@
 // The lister's reader: a ticket's bytes and a place in them. Its methods take it apart, and the work is done by
 // functions of slice and number.
+#![tactic(auto)]
+
 ghost use Rattle.std.specs.Prelude.{◌≡◌, true, ◌+◌, ◌<◌, ◌^◌};
 ghost use Rattle.cell.specs.Records.{record_at};
 ghost use Rattle.reader.specs.Read.{has_record, standing, following};
@@ -7,7 +9,7 @@ ghost use Rattle.reader.specs.Read.{has_record, standing, following};
 use cell::Record;
 use value::Slot;
 
-#[derive(Drop)]
+#[derive(Clone, Copy)]
 pub struct Reader<'a> {
     pub bytes: &'a [u8],
     // The slot whose record is read.

@@ -1,11 +1,13 @@
 // The refusals of every call as one type, with their numbers, places and fields.
+#![tactic(auto)]
+
 ghost use Rattle.std.specs.Prelude.{◌≡◌};
 ghost use Rattle.refusals.specs.Refusals.{figures_at, figures};
 
 use value::Slot;
 
 // Why a call turns its input away.
-#[derive(Drop)]
+#[derive(Clone, Copy)]
 pub enum Refusal {
     ShortWork,
     PartialRecord,
@@ -23,14 +25,14 @@ pub enum Refusal {
     ShortReply,
 }
 
-#[derive(Drop)]
+#[derive(Clone, Copy)]
 pub enum Verdict {
     Pass,
     Refused(Refusal),
 }
 
 // A refusal's number and place in the paper's table, and the field that fails of refusal 7, 0 for all other refusals.
-#[derive(Drop)]
+#[derive(Clone, Copy)]
 pub struct Figures {
     pub number: u32,
     pub place: u32,

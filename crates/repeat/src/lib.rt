@@ -1,1 +1,2 @@
 // One rewriting is enough: there is no code here.
+#![tactic(auto)]

@@ -1,5 +1,7 @@
 // Replays the fixed list of docs/ORACLE.md: for each call a line with the number of tickets and of
 // those on which the library differs from the oracle, and before it a line for each of these.
+#![tactic(auto)]
+
 mod check;
 mod entry;
 mod reply;

@@ -1,1 +1,2 @@
 // How long a reply holds every result: there is no code here.
+#![tactic(auto)]

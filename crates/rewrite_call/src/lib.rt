@@ -1,4 +1,6 @@
 // Rewriting: the rules on every gate bit, and the result compacted.
+#![tactic(auto)]
+
 ghost use Rattle.std.specs.Prelude.{◌≡◌, length};
 ghost use Rattle.design.specs.Queue.{find_new_cell};
 ghost use Rattle.calls.specs.Work.{cleared};

@@ -1,1 +1,2 @@
 // What rewriting keeps: there is no code here.
+#![tactic(auto)]

@@ -1,1 +1,2 @@
 // Laws of rewriting: there is no code here.
+#![tactic(auto)]

@@ -1,6 +1,8 @@
 // The cycle of netlist/src/rewrite.rs: a rule may add a cell, and adding a cell runs the rules. The functions `rewrite_..` are the arms of
 // `SimpleAigOpt` (generic/src/rewrite/aig.rs). Those that look at the cells of their operands decide by the tests of the crates below; those that
 // add a cell call the adder.
+#![tactic(auto)]
+
 ghost use Rattle.std.specs.Prelude.{◌≡◌, false};
 ghost use Rattle.cell.specs.declared.Cell.TheVariants.{Not, And, Or, Xor, Aig};
 ghost use Rattle.rewriter_state.specs.inner.Words.{Held};
@@ -13,7 +15,7 @@ use rewriter_state::{Added, Extent};
 use value::{ControlNet, Net};
 
 // What is left of a cell that was processed (`RewriteResult`): itself, another form, a net in its place; or no slot is left.
-#[derive(Drop)]
+#[derive(Clone, Copy)]
 pub enum Processed {
     None(Extent),
     Cell(Cell, Extent),

@@ -1,5 +1,7 @@
 // The state of the rewriter, after `Rewriter` of netlist/src/rewrite.rs: cells, replaced nets, stamps and the cache, each a part of the work
 // slice.
+#![tactic(auto)]
+
 ghost use Rattle.std.specs.Prelude.{◌≡◌, ◌≤◌, ◌<◌, length};
 ghost use Rattle.netlist.specs.inner.Areas.{words_in};
 ghost use Rattle.design.specs.Queue.{find_new_cell};
@@ -15,7 +17,7 @@ use numberer::Found;
 use value::{Driver, Net, Slot};
 
 // How far the rewriter is: the ticket's slots, all slots, the entries of the cache, the last stamp.
-#[derive(Drop)]
+#[derive(Clone, Copy)]
 pub struct Extent {
     pub tickets: u32,
     pub slots: u32,
@@ -24,7 +26,7 @@ pub struct Extent {
 }
 
 // What adding a cell gives: its net, or no slot is left for it.
-#[derive(Drop)]
+#[derive(Clone, Copy)]
 pub enum Added {
     At(Net, Extent),
     Full,

@@ -1,4 +1,6 @@
 // The lines that are printed. Each function puts something at a place of the text and answers the place behind it.
+#![tactic(auto)]
+
 ghost use Rattle.std.specs.Prelude.{◌+◌, ◌*◌, ◌≤◌, length};
 ghost use Rattle.lines.specs.Decimal.{decimal};
 ghost use Rattle.lines.specs.Lines.{to_end, record_line, refusal_line};

@@ -1,4 +1,6 @@
 // The exports for C: each call, its answer put into eight words and its number returned.
+#![tactic(auto)]
+
 ghost use Rattle.std.specs.Prelude.{◌≡◌, length};
 ghost use Rattle.design.specs.Queue.{find_new_cell};
 ghost use Rattle.calls.specs.Work.{cleared};

@@ -1,4 +1,6 @@
 // A call tried on given slices: what it answers and leaves, held to what it must.
+#![tactic(auto)]
+
 mod reply;
 
 use outcome::{Figures, Outcome};

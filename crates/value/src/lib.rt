@@ -1,26 +1,28 @@
 // Nets, slots and control nets, with their orders. After netlist/src/value.rs.
+#![tactic(auto)]
+
 ghost use Rattle.std.specs.Prelude.{◌≡◌, ◌≤◌};
 ghost use Rattle.value.specs.Value.{net_of, driver, eq_net, le_net, from_net_invert, net, is_positive, is_negative, is_always, canonicalize, not_control, eq_control, le_control};
 
 use logic::Trit;
 
 // A net's index: 0 and 1 are the constants zero and one, 4294967295 is undefined, any other is a slot's number plus two.
-#[derive(Drop)]
+#[derive(Clone, Copy)]
 pub struct Net(pub u32);
 
 // A slot's number: the cell index of the Rust.
-#[derive(Drop)]
+#[derive(Clone, Copy)]
 pub struct Slot(pub u32);
 
 // A net that can be negated.
-#[derive(Drop)]
+#[derive(Clone, Copy)]
 pub enum ControlNet {
     Pos(Net),
     Neg(Net),
 }
 
 // What drives a net.
-#[derive(Drop)]
+#[derive(Clone, Copy)]
 pub enum Driver {
     Const(Trit),
     Cell(Slot),

@@ -1,5 +1,7 @@
 // `Cell::Xor` of `SimpleAigOpt`. a and b are its operands, aa and ab those of the cell that a is of, ba and bb those of the cell that b is of.
 // Rules are asked for in the order of the definition, and the first that applies decides; `.._either` asks in both orders of two operands.
+#![tactic(auto)]
+
 ghost use Rattle.std.specs.Prelude.{◌≡◌};
 ghost use Rattle.value.specs.Value.{eq_net};
 ghost use Rattle.cell.specs.declared.Cell.TheVariants.{Xor};
