@@ -1,0 +1,16 @@
+use mathlib.Core.Path.{◌∙◌, sym, ap}
+use Prim.Native.Nat.{ℕ}
+use Rattle.value.specs.Value.{net_at, driver}
+use Rattle.cell.specs.Operands.{edge_of, edge_at}
+use borrow.Author.Rules.{rules}
+use Rattle.std.proofs.lemmas.Grind.{common_steps}
+use native.Mathlib.Omega.{arith}
+use Rattle.cell.proofs.edge_at.Goals as goal
+
+pub returns-then-is_comb_edge : goal.returns-then-is_comb_edge
+unfolding edge_at
+returns-then-is_comb_edge c = grind (arith, common_steps)
+
+pub returns : goal.returns
+unfolding edge_at
+returns c = rw (sym c.is_comb_edge.ensures ∙ c.if-is_comb_edge.false)

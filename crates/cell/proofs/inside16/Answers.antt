@@ -1,0 +1,7 @@
+use Rattle.cell.specs.Bytes.{word16}
+use borrow.Author.Rules.{rules}
+use Rattle.cell.proofs.inside16.Goals as goal
+
+pub returns : goal.returns
+unfolding word16
+returns c = cc
