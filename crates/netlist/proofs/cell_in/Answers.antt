@@ -1,0 +1,5 @@
+use borrow.Author.Rules.{rules}
+use Rattle.netlist.proofs.cell_in.Goals as goal
+
+pub returns : goal.returns
+returns c = cc

@@ -1,0 +1,7 @@
+use mathlib.Core.Path.{◌∙◌}
+use Rattle.netlist.proofs.Cells.{source-word}
+use borrow.Author.Rules.{rules}
+use Rattle.netlist.proofs.is_source.Goals as goal
+
+pub returns : goal.returns
+returns c = c.is_source.ensures ∙ source-word _ _ _ c.word.ensures
