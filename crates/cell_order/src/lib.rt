@@ -102,7 +102,6 @@ pub fn walk_cell(work: &mut [u32], n: u32, s: Slot, count: u32) -> u32
 }
 
 // Marks a cell, walks to the cells that it reads and puts the cell behind them.
-#[cycle(visit_cell_walk_deps)]
 #[cycle(cells)]
 fn visit_cell(work: &mut [u32], n: u32, s: Slot, count: u32) -> u32
     requires ready { Ready n count work.old }
@@ -116,7 +115,6 @@ fn visit_cell(work: &mut [u32], n: u32, s: Slot, count: u32) -> u32
 }
 
 // Walks to the cells from a slot on that a cell reads, the lowest first.
-#[cycle(visit_cell_walk_deps)]
 #[cycle(cells)]
 fn walk_deps(work: &mut [u32], n: u32, s: Slot, from: u32, count: u32) -> u32
     requires ready { Ready n count work.old }

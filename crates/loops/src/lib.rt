@@ -34,7 +34,6 @@ fn stops(stop: Stop, x: Slot) -> bool
 
 // Opens a slot that was not visited, follows its edges and finishes it. This and the next three answer the next stamp, or 0
 // where the walk met an open slot that ends it: a number, since an enum would come back through memory.
-#[cycle(meet_visit_visit_edge_visit_edges)]
 #[cycle(descent)]
 fn visit(work: &mut [u32], ticket: &[u8], stop: Stop, s: Slot, clock: u32) -> u32
     requires { Ready (records_of ticket.now) stop clock work.old s.0 0 }
@@ -51,7 +50,6 @@ fn visit(work: &mut [u32], ticket: &[u8], stop: Stop, s: Slot, clock: u32) -> u3
 }
 
 // Follows the edges of an open slot.
-#[cycle(meet_visit_visit_edge_visit_edges)]
 #[cycle(descent)]
 fn visit_edges(work: &mut [u32], ticket: &[u8], stop: Stop, s: Slot, clock: u32) -> u32
     requires { Ready (records_of ticket.now) stop clock work.old s.0 1 }
@@ -70,7 +68,6 @@ fn visit_edges(work: &mut [u32], ticket: &[u8], stop: Stop, s: Slot, clock: u32)
 }
 
 // Follows the edge of an open slot, whose record is r, by field f.
-#[cycle(meet_visit_visit_edge_visit_edges)]
 #[cycle(descent)]
 fn visit_edge(
     work: &mut [u32],
@@ -92,7 +89,6 @@ fn visit_edge(
 }
 
 // Visits a slot unless it was visited, and says whether the walk ends there.
-#[cycle(meet_visit_visit_edge_visit_edges)]
 #[cycle(descent)]
 fn meet(work: &mut [u32], ticket: &[u8], stop: Stop, x: Slot, clock: u32) -> u32
     requires { Coming (records_of ticket.now) stop clock work.old x.0 }

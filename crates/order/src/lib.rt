@@ -47,7 +47,6 @@ pub fn clear_marks(work: &mut [u32], n: u32)
 }
 
 // Walks to a bit unless it was visited.
-#[cycle(visit_bit_walk_bit_walk_net_walk_operands)]
 #[cycle(bits)]
 fn walk_bit(work: &mut [u32], n: u32, s: Slot, count: u32) -> u32
     requires { Ready n count work.old }
@@ -60,7 +59,6 @@ fn walk_bit(work: &mut [u32], n: u32, s: Slot, count: u32) -> u32
 }
 
 // Marks a bit, walks down its operands and puts the bit behind them.
-#[cycle(visit_bit_walk_bit_walk_net_walk_operands)]
 #[cycle(bits)]
 fn visit_bit(work: &mut [u32], n: u32, s: Slot, count: u32) -> u32
     requires ready { Ready n count work.old }
@@ -75,7 +73,6 @@ fn visit_bit(work: &mut [u32], n: u32, s: Slot, count: u32) -> u32
 }
 
 // Walks down the operands, the last first.
-#[cycle(visit_bit_walk_bit_walk_net_walk_operands)]
 #[cycle(bits)]
 fn walk_operands(work: &mut [u32], n: u32, reads: Operands, count: u32) -> u32
     requires { Ready n count work.old }
@@ -87,7 +84,6 @@ fn walk_operands(work: &mut [u32], n: u32, reads: Operands, count: u32) -> u32
 }
 
 // Walks to the bit that drives a net; sources are not walked to.
-#[cycle(visit_bit_walk_bit_walk_net_walk_operands)]
 #[cycle(bits)]
 fn walk_net(work: &mut [u32], n: u32, x: Net, count: u32) -> u32
     requires { Ready n count work.old }

@@ -64,7 +64,6 @@ fn rewrite_not(work: &[u32], x: Extent, a: Net) -> Processed
 }
 
 // `Cell::And`, and-split: a & b
-#[cycle(add_cell_process_cell_rewrite_aig_rewrite_and_rewrite_or_rewrite_xor_simple_aig_opt)]
 #[cycle(passes)]
 fn rewrite_and(work: &mut [u32], x: Extent, a: Net, b: Net) -> Processed
     requires { Ready x work.old (And a b) }
@@ -77,7 +76,6 @@ fn rewrite_and(work: &mut [u32], x: Extent, a: Net, b: Net) -> Processed
 }
 
 // `Cell::Or`, or-split: ~(~a & ~b)
-#[cycle(add_cell_process_cell_rewrite_aig_rewrite_and_rewrite_or_rewrite_xor_simple_aig_opt)]
 #[cycle(passes)]
 fn rewrite_or(work: &mut [u32], x: Extent, a: Net, b: Net) -> Processed
     requires { Ready x work.old (Or a b) }
@@ -99,7 +97,6 @@ fn xor_outcome(work: &[u32], x: Extent, a: Net, b: Net) -> Outcome
 }
 
 // `Cell::Xor`
-#[cycle(add_cell_process_cell_rewrite_aig_rewrite_and_rewrite_or_rewrite_xor_simple_aig_opt)]
 #[cycle(passes)]
 fn rewrite_xor(work: &mut [u32], x: Extent, a: Net, b: Net) -> Processed
     requires { Ready x work.old (Xor a b) }
@@ -127,7 +124,6 @@ fn aig_outcome(work: &[u32], x: Extent, p: ControlNet, q: ControlNet) -> Outcome
 }
 
 // `Cell::Aig`
-#[cycle(add_cell_process_cell_rewrite_aig_rewrite_and_rewrite_or_rewrite_xor_simple_aig_opt)]
 #[cycle(passes)]
 fn rewrite_aig(work: &mut [u32], x: Extent, p: ControlNet, q: ControlNet) -> Processed
     requires { Ready x work.old (Aig p q) }
@@ -146,7 +142,6 @@ fn rewrite_aig(work: &mut [u32], x: Extent, p: ControlNet, q: ControlNet) -> Pro
 }
 
 // `SimpleAigOpt::rewrite`
-#[cycle(add_cell_process_cell_rewrite_aig_rewrite_and_rewrite_or_rewrite_xor_simple_aig_opt)]
 #[cycle(passes)]
 fn simple_aig_opt(work: &mut [u32], x: Extent, c: Cell) -> Processed
     requires { Ready x work.old c }
@@ -194,7 +189,6 @@ fn as_form(replaced: bool, d: Cell, p: Processed) -> Processed
 }
 
 // `Rewriter::process_cell`: `Normalize` is asked first, then `SimpleAigOpt`, and another form goes round again.
-#[cycle(add_cell_process_cell_rewrite_aig_rewrite_and_rewrite_or_rewrite_xor_simple_aig_opt)]
 #[cycle(passes)]
 pub fn process_cell(work: &mut [u32], x: Extent, c: Cell) -> Processed
     requires { Ready x work.old c }
@@ -229,7 +223,6 @@ pub fn process_cell(work: &mut [u32], x: Extent, c: Cell) -> Processed
 }
 
 // `Rewriter::add_cell`
-#[cycle(add_cell_process_cell_rewrite_aig_rewrite_and_rewrite_or_rewrite_xor_simple_aig_opt)]
 #[cycle(passes)]
 pub fn add_cell(work: &mut [u32], x: Extent, c: Cell) -> Added
     requires { Ready x work.old c }

@@ -24,4 +24,4 @@ loop-s-preserved c =
     c.record_at.ensures c.put_record.ensures (λ k. (c.shared_slice_known-1.given k).fits)
 
 pub returns : goal.returns
-returns c = (search loading-all, search loading-frame)
+returns c = record { work_after = search loading-all; within = search loading-frame }

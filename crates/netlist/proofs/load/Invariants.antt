@@ -4,8 +4,8 @@ use Prim.Native.Nat.{◌-◌}
 use Rattle.netlist.proofs.Areas.{Loading, loading-none, loading-more, loading-all, loading-frame}
 use Rattle.netlist.proofs.load.Given as goal
 
-abbrev pub invariant-loop : goal.invariant-loop
-invariant-loop l = Loading l.ticket l.n l.initial.work l.work l.s
+abbrev pub invariant-loop-s : goal.invariant-loop-s
+invariant-loop-s l = Loading l.ticket l.n l.initial.work l.work l.s
 
-abbrev pub decreases-loop : goal.decreases-loop
-decreases-loop l = l.n - l.s
+abbrev pub decreases-loop-s : goal.decreases-loop-s
+decreases-loop-s l = l.n - l.s
