@@ -1,0 +1,18 @@
+-- `loops::first_on_loop` meets its contract. Assumes nothing.
+use Prim.Native.Nat.{◌-◌}
+use Rattle.cell.specs.Records.{records_of}
+use Rattle.loops.proofs.Search.{Seeking, seeking-begins, seeking-more, seeking-found, seeking-ends}
+use borrow.Author.Rules.{rules}
+use Rattle.loops.proofs.first_on_loop.Goals as goal
+
+pub loop-s-init : goal.loop-s-init
+loop-s-init c = search seeking-begins
+
+pub returns-then-is_on_loop : goal.returns-then-is_on_loop
+returns-then-is_on_loop c = search seeking-found
+
+pub loop-s-preserved : goal.loop-s-preserved
+loop-s-preserved c = search seeking-more
+
+pub returns : goal.returns
+returns c = search seeking-ends

@@ -1,0 +1,21 @@
+-- `loops::walk_all` meets its contract. Assumes nothing.
+use Prim.Native.Nat.{◌-◌}
+use Rattle.cell.specs.Records.{records_of}
+use Rattle.loops.proofs.Search.{Going, going-begins, going-coming, going_more, going-stuck, going-ends}
+use borrow.Author.Rules.{rules}
+use Rattle.loops.proofs.walk_all.Goals as goal
+
+pub loop-i-init : goal.loop-i-init
+loop-i-init c = search going-begins
+
+pub meet-next-requires : goal.meet-next-requires
+meet-next-requires c = search going-coming
+
+pub returns-then-next-eq0 : goal.returns-then-next-eq0
+returns-then-next-eq0 c = search going-stuck
+
+pub loop-i-preserved : goal.loop-i-preserved
+loop-i-preserved c = search going_more
+
+pub returns : goal.returns
+returns c = search going-ends

@@ -1,0 +1,14 @@
+-- `order::clear_marks` meets its contract. Assumes nothing.
+use Prim.Native.Nat.{◌-◌}
+use borrow.Author.Rules.{rules}
+use Rattle.order.proofs.Words.{Clearing, clearing-none, clearing-more, clearing-all}
+use Rattle.order.proofs.clear_marks.Goals as goal
+
+pub loop-i-init : goal.loop-i-init
+loop-i-init c = search clearing-none
+
+pub loop-i-preserved : goal.loop-i-preserved
+loop-i-preserved c = search clearing-more
+
+pub returns : goal.returns
+returns c = search clearing-all
