@@ -9,14 +9,6 @@ use Rattle.order.proofs.Bits.{net-constant, net-source, net-bit, operands-done, 
 use Prim.Native.Nat.{ℕ, ◌+◌, ◌*◌, ◌<◌}
 use Rattle.order.proofs.+bits.Goals as goal
 
-walk-operands-returns :
-    (t : ℕ) →
-    walk-operands-lts.Need-returns
-    (walk-net-below t, walk-net.Post)
-    (walk-operands-at t)
-    walk-operands.Post
-walk-operands-returns t c = search operands-done
-
 pub visit_bit-walk_operands-c-requires : goal.visit_bit-walk_operands-c-requires
 visit_bit-walk_operands-c-requires t c = (search (marked-falls, lit≤, tt), search marked-ready)
 
@@ -49,3 +41,9 @@ walk_operands-walk_net-third-requires t c = (omega arith, search rules)
 
 pub walk_operands-walk_net-second-requires : goal.walk_operands-walk_net-second-requires
 walk_operands-walk_net-second-requires t c = (search walks-falls, search walks-ready)
+
+pub walk_operands-walk_net-requires : goal.walk_operands-walk_net-requires
+walk_operands-walk_net-requires t c = search (rules, walks-falls-2, walks-ready-2)
+
+pub walk_operands-returns : goal.walk_operands-returns
+walk_operands-returns t c = search operands-done

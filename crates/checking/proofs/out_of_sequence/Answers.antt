@@ -1,0 +1,9 @@
+use Rattle.checking.proofs.Records.{bit-first, bit-later}
+use borrow.Author.Rules.{rules}
+use Rattle.checking.proofs.out_of_sequence.Goals as goal
+
+pub returns-then-r-eq0 : goal.returns-then-r-eq0
+returns-then-r-eq0 c = search bit-first
+
+pub returns : goal.returns
+returns c = search bit-later

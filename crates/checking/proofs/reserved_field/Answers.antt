@@ -1,0 +1,7 @@
+use Rattle.checking.specs.Checking.{reserved_field}
+use borrow.Author.Rules.{rules}
+use Rattle.checking.proofs.reserved_field.Goals as goal
+
+pub returns : goal.returns
+unfolding reserved_field
+returns c = cc
