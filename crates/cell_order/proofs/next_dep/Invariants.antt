@@ -1,0 +1,11 @@
+-- `cell_order::next_dep` meets its contract. Assumes nothing.
+use Prim.Native.Nat.{◌-◌}
+use Rattle.cell_order.proofs.Lowest.{Scanning, scanning-begins, scanning-more, scanning-ends}
+use borrow.Author.Rules.{rules}
+use Rattle.cell_order.proofs.next_dep.Given as goal
+
+abbrev pub invariant-loop-n : goal.invariant-loop-n
+invariant-loop-n l = Scanning l.n l.work l.from l.initial.i l.best l.i
+
+abbrev pub decreases-loop-n : goal.decreases-loop-n
+decreases-loop-n l = l.n - l.i

@@ -1,0 +1,11 @@
+-- `cell_order::put_sources` meets its contract. Assumes nothing.
+use Prim.Native.Nat.{◌-◌}
+use Rattle.cell_order.proofs.Starts.{Putting, putting-begins, putting-ready, putting-new, putting-more, putting-ends}
+use borrow.Author.Rules.{rules}
+use Rattle.cell_order.proofs.put_sources.Given as goal
+
+abbrev pub invariant-loop-s : goal.invariant-loop-s
+invariant-loop-s l = Putting l.n l.initial.work l.work l.count l.s
+
+abbrev pub decreases-loop-s : goal.decreases-loop-s
+decreases-loop-s l = l.n - l.s

@@ -1,0 +1,11 @@
+use Rattle.design.proofs.Applying.{Applying, applying-none, applying-more, applied-all, applied-flag, applied-frame}
+use Prim.Native.Nat.{◌-◌}
+use native.Mathlib.Omega.{arith}
+use borrow.Author.Rules.{rules}
+use Rattle.design.proofs.queue.apply.Given as goal
+
+abbrev pub invariant-loop-s : goal.invariant-loop-s
+invariant-loop-s l = Applying l.n l.initial.work l.work l.changed l.s
+
+abbrev pub decreases-loop-s : goal.decreases-loop-s
+decreases-loop-s l = l.n - l.s

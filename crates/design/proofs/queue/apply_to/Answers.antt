@@ -1,0 +1,6 @@
+use Rattle.design.proofs.Applying.{applies}
+use borrow.Author.Rules.{rules}
+use Rattle.design.proofs.queue.apply_to.Goals as goal
+
+pub returns : goal.returns
+returns c = search applies

@@ -1,0 +1,11 @@
+use Rattle.design.proofs.Replacing.{Unchanging, unchanging-none, unchanging-more, unchanging-all, unchanging-frame}
+use Prim.Native.Nat.{◌-◌}
+use native.Mathlib.Omega.{arith}
+use borrow.Author.Rules.{rules}
+use Rattle.design.proofs.queue.unchanged.Given as goal
+
+abbrev pub invariant-loop-s : goal.invariant-loop-s
+invariant-loop-s l = Unchanging l.n l.initial.work l.work l.s
+
+abbrev pub decreases-loop-s : goal.decreases-loop-s
+decreases-loop-s l = l.n - l.s

@@ -1,0 +1,6 @@
+use Rattle.levels.proofs.Given.{evaluated, evaluated-within}
+use borrow.Author.Rules.{rules}
+use Rattle.levels.proofs.evaluate.Goals as goal
+
+pub returns : goal.returns
+returns c = record { work_after = search evaluated; within = search evaluated-within }

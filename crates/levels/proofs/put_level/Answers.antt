@@ -1,0 +1,5 @@
+use borrow.Author.Rules.{rules}
+use Rattle.levels.proofs.put_level.Goals as goal
+
+pub returns : goal.returns
+returns c = cc
