@@ -1,0 +1,23 @@
+use Rattle.compact.proofs.Compacting.{Writing, writing-none, writing-room, writing_more, writing-all}
+use Prim.Native.Nat.{◌-◌}
+use native.Mathlib.Omega.{arith}
+use borrow.Author.Rules.{rules}
+use Rattle.compact.proofs.compact.Goals as goal
+
+pub loop-s-init : goal.loop-s-init
+loop-s-init c = search writing-none
+
+pub copy_kept-requires : goal.copy_kept-requires
+copy_kept-requires c = record { tallied = search rules; s_lt_n = search rules; total_in_bounds = search writing-room }
+
+pub overflow_add-s : goal.overflow_add-s
+overflow_add-s c = omega arith
+
+pub loop-s-smaller : goal.loop-s-smaller
+loop-s-smaller c = omega arith
+
+pub loop-s-preserved : goal.loop-s-preserved
+loop-s-preserved c = search writing_more
+
+pub returns : goal.returns
+returns c = search writing-all

@@ -1,0 +1,6 @@
+use Rattle.compact.proofs.Tally.{kept_read}
+use borrow.Author.Rules.{rules}
+use Rattle.compact.proofs.is_kept.Goals as goal
+
+pub returns : goal.returns
+returns c = search kept_read

@@ -1,0 +1,6 @@
+use Rattle.compact.proofs.Tallying.{keeps}
+use borrow.Author.Rules.{rules}
+use Rattle.compact.proofs.keep.Goals as goal
+
+pub returns : goal.returns
+returns c = search keeps

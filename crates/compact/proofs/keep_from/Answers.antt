@@ -1,0 +1,9 @@
+use Rattle.compact.proofs.Keeping.{from-root, from-none}
+use borrow.Author.Rules.{rules}
+use Rattle.compact.proofs.keep_from.Goals as goal
+
+pub returns-then-is_root : goal.returns-then-is_root
+returns-then-is_root c = search from-root
+
+pub returns : goal.returns
+returns c = search from-none

@@ -1,0 +1,7 @@
+use Rattle.netlist.specs.inner.Fields.{renamed_fields}
+use borrow.Author.Rules.{rules}
+use Rattle.compact.proofs.renumbered_record.Goals as goal
+
+pub returns : goal.returns
+unfolding renamed_fields
+returns c = cc

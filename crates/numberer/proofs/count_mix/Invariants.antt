@@ -1,0 +1,12 @@
+-- `numberer::count_mix` meets its contract. Assumes nothing.
+use Rattle.numberer.proofs.Mixing.{rounded, Counting, counting-none, counting-inside, counting-fits, counting_more, counting-all}
+use Prim.Native.Nat.{◌-◌}
+use native.Mathlib.Omega.{arith}
+use borrow.Author.Rules.{rules}
+use Rattle.numberer.proofs.count_mix.Given as goal
+
+abbrev pub invariant-loop-i : goal.invariant-loop-i
+invariant-loop-i l = Counting l.x l.work l.i l.count
+
+abbrev pub decreases-loop-i : goal.decreases-loop-i
+decreases-loop-i l = rounded l.k - l.i
