@@ -1,0 +1,9 @@
+use Rattle.normalize.proofs.First.{first, second}
+use borrow.Author.Rules.{rules}
+use Rattle.aig_arms.proofs.nand.nand_nand_either.Goals as goal
+
+pub returns-then-applies : goal.returns-then-applies
+returns-then-applies c = search first
+
+pub returns : goal.returns
+returns c = search second

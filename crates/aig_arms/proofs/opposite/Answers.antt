@@ -1,0 +1,5 @@
+use borrow.Author.Rules.{rules}
+use Rattle.aig_arms.proofs.opposite.Goals as goal
+
+pub returns : goal.returns
+returns c = rw (c.control_eq.ensures, c.not.ensures)

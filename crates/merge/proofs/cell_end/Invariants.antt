@@ -1,0 +1,12 @@
+-- `merge::cell_end` meets its contract. Assumes nothing.
+use native.Mathlib.Omega.{arith}
+use Prim.Native.Nat.{◌-◌}
+use Rattle.merge.proofs.Cells.{Ending, ending-none, ending-stop, ending-more, ending-all}
+use borrow.Author.Rules.{rules}
+use Rattle.merge.proofs.cell_end.Given as goal
+
+abbrev pub invariant-loop-e : goal.invariant-loop-e
+invariant-loop-e l = Ending l.n l.work l.initial.e l.e
+
+abbrev pub decreases-loop-e : goal.decreases-loop-e
+decreases-loop-e l = l.n - l.e

@@ -1,0 +1,7 @@
+-- `merge::merge` meets its contract. Assumes nothing.
+use Rattle.merge.proofs.Merging.{merged}
+use borrow.Author.Rules.{rules}
+use Rattle.merge.proofs.merge.Goals as goal
+
+pub returns : goal.returns
+returns c = search merged

@@ -1,0 +1,12 @@
+-- `merge::put_keys` meets its contract. Assumes nothing.
+use native.Mathlib.Omega.{arith}
+use Prim.Native.Nat.{◌-◌}
+use Rattle.merge.proofs.Cells.{Keying, keying-none, keying-more, keying-all}
+use borrow.Author.Rules.{rules}
+use Rattle.merge.proofs.put_keys.Given as goal
+
+abbrev pub invariant-loop-i : goal.invariant-loop-i
+invariant-loop-i l = Keying l.n l.initial.i l.e l.initial.work l.work l.i
+
+abbrev pub decreases-loop-i : goal.decreases-loop-i
+decreases-loop-i l = l.e - l.i
