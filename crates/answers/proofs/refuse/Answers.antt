@@ -1,0 +1,6 @@
+-- `answers::refuse` meets its contract. Assumes nothing.
+use borrow.Author.Rules.{rules}
+use Rattle.answers.proofs.refuse.Goals as goal
+
+pub returns : goal.returns
+returns c = record { value = cc; answer_after = cc }

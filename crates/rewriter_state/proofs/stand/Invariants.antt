@@ -1,0 +1,12 @@
+-- `rewriter_state::stand` meets its contract. Assumes nothing.
+use Rattle.rewriter_state.proofs.Standing.{Standing, standing-none, standing-more, standing-all}
+use Prim.Native.Nat.{◌-◌}
+use native.Mathlib.Omega.{arith}
+use borrow.Author.Rules.{rules}
+use Rattle.rewriter_state.proofs.stand.Given as goal
+
+abbrev pub invariant-loop-s : goal.invariant-loop-s
+invariant-loop-s l = Standing l.x l.initial.work l.work l.s
+
+abbrev pub decreases-loop-s : goal.decreases-loop-s
+decreases-loop-s l = l.x.slots - l.s
