@@ -1,0 +1,7 @@
+-- `rewriter::run::begin` meets its contract. Assumes nothing.
+use Rattle.rewriter.proofs.Runs.{run-begins}
+use borrow.Author.Rules.{rules}
+use Rattle.rewriter.proofs.run.begin.Goals as goal
+
+pub returns : goal.returns
+returns c = search run-begins

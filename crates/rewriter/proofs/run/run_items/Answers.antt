@@ -1,0 +1,30 @@
+-- `rewriter::run::run_items` meets its contract. Assumes nothing.
+use borrow.Author.Rules.{rules}
+use native.Mathlib.Omega.{arith}
+use Prim.Native.Nat.{◌-◌}
+use Rattle.rewriter.proofs.Items.{Rolling, rolling-none, rolling-ready, rolling-more, rolling-full, rolling-end}
+use Rattle.rewriter.proofs.run.run_items.Goals as goal
+
+pub loop-j-init : goal.loop-j-init
+loop-j-init c = search rolling-none
+
+pub overflow_add-j : goal.overflow_add-j
+overflow_add-j c = omega arith
+
+pub run_item-requires : goal.run_item-requires
+run_item-requires c = search rolling-ready
+
+pub returns-in-Full : goal.returns-in-Full
+returns-in-Full c = search rolling-full
+
+pub overflow_add-j-in-loop-j : goal.overflow_add-j-in-loop-j
+overflow_add-j-in-loop-j c = omega arith
+
+pub loop-j-smaller : goal.loop-j-smaller
+loop-j-smaller c = omega arith
+
+pub loop-j-preserved : goal.loop-j-preserved
+loop-j-preserved c = search rolling-more
+
+pub returns : goal.returns
+returns c = search rolling-end
