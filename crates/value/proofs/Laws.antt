@@ -4,7 +4,7 @@ use mathlib.Core.Path.{◌≡◌, refl, sym, ap, ◌∙◌}
 use mathlib.Core.Bool.{Bool, true, false, false≢true, cond, not, ◌&&◌, and-eq-true_iff}
 use Prim.Native.Nat.{ℕ, ◌+◌, ◌-◌, ◌≤◌, ◌<◌}
 use native.Mathlib.Omega.{arith}
-use lib.Dec.{leb, eqb}
+use lib.Dec.{leb}
 use borrow.Author.Tests.{eqb-true, eqb-false, eq-eqb, ne_eqb, le-leb, leb-true, leb-false}
 use Rattle.logic.specs.declared.Trit.{Trit}
 use Rattle.logic.specs.declared.Trit.TheVariants.{Zero, One, Undef}
@@ -17,7 +17,7 @@ use Rattle.value.specs.declared.ControlNet.{ControlNet}
 use Rattle.value.specs.declared.ControlNet.TheVariants.{Pos, Neg}
 use Rattle.value.specs.declared.Driver.{Driver}
 use Rattle.value.specs.declared.Driver.TheVariants.{Const, Cell}
-use Rattle.value.specs.Value.{net_at, slot_at, UNDEF, ZERO, ONE, from_trit, eq_net, net_of, driver, constant, is_const, from_net_invert, net, is_positive, is_negative, canonicalize, opposite, not_control, eq_control}
+use Rattle.value.specs.Value.{net_at, slot_at, UNDEF, ZERO, from_trit, eq_net, net_of, driver, constant, is_const, from_net_invert, net, is_positive, is_negative, canonicalize, opposite, not_control, eq_control}
 
 -- equality
 pub net-test : Decides eq_net

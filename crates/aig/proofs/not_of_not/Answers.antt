@@ -1,4 +1,3 @@
-use mathlib.Core.Path.{refl}
 use Rattle.aig.proofs.Sources.{no-not, of-not}
 use borrow.Author.Rules.{rules}
 use Rattle.std.proofs.lemmas.Grind.{common_steps}

@@ -1,6 +1,5 @@
 use Rattle.normalize.proofs.First.{held, failed}
 use Rattle.aig.specs.Aig.{not_rule}
-use borrow.Author.Rules.{rules}
 use Rattle.aig.proofs.not_rule.Goals as goal
 
 pub returns-then-net_eq : goal.returns-then-net_eq

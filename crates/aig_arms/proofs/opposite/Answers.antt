@@ -1,4 +1,3 @@
-use borrow.Author.Rules.{rules}
 use Rattle.aig_arms.proofs.opposite.Goals as goal
 
 pub returns : goal.returns

@@ -1,5 +1,4 @@
 use Rattle.normalize.proofs.First.{positive, negative}
-use borrow.Author.Rules.{rules}
 use Rattle.and_inverter.proofs.aig_of_aig.Goals as goal
 
 pub returns-then-is_positive : goal.returns-then-is_positive

@@ -1,7 +1,6 @@
 use Rattle.normalize.specs.Outcomes.{◌or_else◌}
 use Rattle.normalize.proofs.First.{none-or_else, or_else-none}
 use Rattle.aig.specs.Aig.{if_not, if_aig, if_xor, aig_of_not, aig_of_and, aig_of_nand, aig_of_xor}
-use borrow.Author.Rules.{rules}
 use Rattle.std.proofs.lemmas.Grind.{common_steps}
 use native.Mathlib.Omega.{arith}
 use Rattle.and_inverter.proofs.aig_of_gate.Goals as goal

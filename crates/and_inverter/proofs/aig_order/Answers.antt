@@ -1,6 +1,5 @@
 use Rattle.normalize.proofs.First.{control-applies, held, failed}
 use Rattle.aig.specs.Aig.{aig_order}
-use borrow.Author.Rules.{rules}
 use Rattle.and_inverter.proofs.aig_order.Goals as goal
 
 pub returns-then-control_eq : goal.returns-then-control_eq

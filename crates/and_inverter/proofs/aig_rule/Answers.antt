@@ -1,6 +1,5 @@
 use Rattle.normalize.proofs.First.{first, second}
 use Rattle.aig.specs.Aig.{aig_rule}
-use borrow.Author.Rules.{rules}
 use Rattle.and_inverter.proofs.aig_rule.Goals as goal
 
 pub returns-then-applies : goal.returns-then-applies

@@ -1,4 +1,3 @@
-use borrow.Author.Rules.{rules}
 use Rattle.and_inverter.proofs.contradicts.Goals as goal
 
 pub returns : goal.returns

@@ -1,4 +1,3 @@
-use borrow.Author.Rules.{rules}
 use Rattle.and_inverter.proofs.merged.Goals as goal
 
 pub returns : goal.returns

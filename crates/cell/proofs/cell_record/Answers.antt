@@ -1,6 +1,4 @@
-use mathlib.Core.Path.{◌∙◌, sym, ap}
 use Rattle.cell.specs.Records.{cell_record}
-use borrow.Author.Rules.{rules}
 use Rattle.std.proofs.lemmas.Grind.{common_steps}
 use native.Mathlib.Omega.{arith}
 use Rattle.cell.proofs.cell_record.Goals as goal

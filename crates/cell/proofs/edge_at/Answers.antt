@@ -1,8 +1,5 @@
-use mathlib.Core.Path.{◌∙◌, sym, ap}
-use Prim.Native.Nat.{ℕ}
-use Rattle.value.specs.Value.{net_at, driver}
-use Rattle.cell.specs.Operands.{edge_of, edge_at}
-use borrow.Author.Rules.{rules}
+use mathlib.Core.Path.{◌∙◌, sym}
+use Rattle.cell.specs.Operands.{edge_at}
 use Rattle.std.proofs.lemmas.Grind.{common_steps}
 use native.Mathlib.Omega.{arith}
 use Rattle.cell.proofs.edge_at.Goals as goal

@@ -1,4 +1,3 @@
-use borrow.Author.Rules.{rules}
 use Rattle.cell.proofs.edge_of.Goals as goal
 
 pub returns-in-Cell : goal.returns-in-Cell

@@ -1,4 +1,3 @@
-use borrow.Author.Tests.{eq-eqb, ne_eqb}
 use Rattle.cell.specs.Operands.{field_of}
 use Rattle.std.proofs.lemmas.Grind.{common_steps}
 use native.Mathlib.Omega.{arith}

@@ -1,5 +1,4 @@
 use mathlib.Core.Path.{◌∙◌, sym}
-use borrow.Author.Rules.{rules}
 use Rattle.cell.proofs.flags_of.Goals as goal
 
 pub returns-then-is_negative-2 : goal.returns-then-is_negative-2

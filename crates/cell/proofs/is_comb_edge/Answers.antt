@@ -1,5 +1,4 @@
 use Rattle.cell.specs.Operands.{is_comb_edge}
-use borrow.Author.Rules.{rules}
 use Rattle.cell.proofs.is_comb_edge.Goals as goal
 
 pub returns : goal.returns

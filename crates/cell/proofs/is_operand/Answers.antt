@@ -1,5 +1,4 @@
 use Rattle.cell.specs.Operands.{is_operand}
-use borrow.Author.Rules.{rules}
 use Rattle.cell.proofs.is_operand.Goals as goal
 
 pub returns : goal.returns

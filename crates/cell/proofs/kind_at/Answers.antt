@@ -1,5 +1,4 @@
 use Rattle.cell.specs.Records.{record_at}
-use borrow.Author.Rules.{rules}
 use Rattle.cell.proofs.kind_at.Goals as goal
 
 pub returns : goal.returns

@@ -1,5 +1,4 @@
 use Rattle.cell.specs.Bytes.{store16}
-use borrow.Author.Rules.{rules}
 use Rattle.cell.proofs.set16.Goals as goal
 
 pub returns : goal.returns

@@ -1,5 +1,4 @@
 use Rattle.cell.specs.Bytes.{store32}
-use borrow.Author.Rules.{rules}
 use Rattle.cell.proofs.set32.Goals as goal
 
 pub returns : goal.returns

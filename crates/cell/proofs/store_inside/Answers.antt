@@ -1,6 +1,5 @@
 use mathlib.Core.Path.{◌∙◌}
 use Rattle.cell.proofs.Laws.{store_record, store_record-is}
-use borrow.Author.Rules.{rules}
 use Rattle.cell.proofs.store_inside.Goals as goal
 
 pub returns : goal.returns

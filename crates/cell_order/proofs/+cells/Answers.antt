@@ -3,12 +3,10 @@
 use borrow.Author.Rules.{rules}
 use native.Mathlib.Omega.{arith}
 use lib.Dec.{lit≤}
-use Rattle.order.specs.inner.Code.{unvisited_in}
 use Rattle.order.proofs.Words.{new-below}
 use Rattle.order.proofs.Walking.{walks-ready, marked-falls, marked-ready}
 use Rattle.cell_order.proofs.Cells.{deps-none, deps-new, deps-falls, deps-more, cell-next, cell-done}
 use borrow.Author.Rules.{rules}
-use Prim.Native.Nat.{ℕ, ◌+◌, ◌*◌, ◌<◌}
 use Rattle.cell_order.proofs.+cells.Goals as goal
 
 pub visit_cell-walk_deps-c-requires : goal.visit_cell-walk_deps-c-requires

@@ -1,14 +1,7 @@
 -- The proof of the cycle of calls {visit_cell, walk_deps}. The measure is eight times the number of items that are not visited, and less
 -- than eight more by the member. Assumes nothing.
-use borrow.Author.Rules.{rules}
-use native.Mathlib.Omega.{arith}
-use lib.Dec.{lit≤}
 use Rattle.order.specs.inner.Code.{unvisited_in}
-use Rattle.order.proofs.Words.{new-below}
-use Rattle.order.proofs.Walking.{walks-ready, marked-falls, marked-ready}
-use Rattle.cell_order.proofs.Cells.{deps-none, deps-new, deps-falls, deps-more, cell-next, cell-done}
-use borrow.Author.Rules.{rules}
-use Prim.Native.Nat.{ℕ, ◌+◌, ◌*◌, ◌<◌}
+use Prim.Native.Nat.{◌+◌, ◌*◌}
 use Rattle.cell_order.proofs.+cells.Given as goal
 
 abbrev pub decreases-visit_cell : goal.decreases-visit_cell

@@ -1,6 +1,5 @@
 -- `cell_order::bit_of` meets its contract. Assumes nothing.
 use Rattle.cell_order.proofs.Lowest.{bit_word, bit_past}
-use borrow.Author.Rules.{rules}
 use Rattle.cell_order.proofs.bit_of.Goals as goal
 
 pub returns-then-s-n : goal.returns-then-s-n

@@ -1,6 +1,5 @@
 -- `cell_order::iter_cells_topo` meets its contract. Assumes nothing.
 use Rattle.cell_order.proofs.Starts.{outputs-long, outputs-room, cells-sorted}
-use borrow.Author.Rules.{rules}
 use Rattle.cell_order.proofs.iter_cells_topo.Goals as goal
 
 pub put_outputs-requires : goal.put_outputs-requires

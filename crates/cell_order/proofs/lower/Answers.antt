@@ -1,6 +1,5 @@
 -- `cell_order::lower` meets its contract. Assumes nothing.
 use Rattle.cell_order.proofs.Lowest.{lower-before, lower-after, lower-visited, lower-taken}
-use borrow.Author.Rules.{rules}
 use Rattle.cell_order.proofs.lower.Goals as goal
 
 pub returns-then-y-from : goal.returns-then-y-from

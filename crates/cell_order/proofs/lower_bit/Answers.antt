@@ -1,6 +1,5 @@
 -- `cell_order::lower_bit` meets its contract. Assumes nothing.
 use Rattle.cell_order.proofs.Lowest.{bit-lowers}
-use borrow.Author.Rules.{rules}
 use Rattle.cell_order.proofs.lower_bit.Goals as goal
 
 pub returns : goal.returns

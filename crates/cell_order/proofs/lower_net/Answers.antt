@@ -1,6 +1,5 @@
 -- `cell_order::lower_net` meets its contract. Assumes nothing.
 use Rattle.cell_order.proofs.Lowest.{net-none, net-start}
-use borrow.Author.Rules.{rules}
 use Rattle.cell_order.proofs.lower_net.Goals as goal
 
 pub returns-in-Const : goal.returns-in-Const

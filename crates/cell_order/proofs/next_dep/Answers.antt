@@ -1,7 +1,6 @@
 -- `cell_order::next_dep` meets its contract. Assumes nothing.
 use Prim.Native.Nat.{◌-◌}
-use Rattle.cell_order.proofs.Lowest.{Scanning, scanning-begins, scanning-more, scanning-ends}
-use borrow.Author.Rules.{rules}
+use Rattle.cell_order.proofs.Lowest.{scanning-begins, scanning-more, scanning-ends}
 use Rattle.cell_order.proofs.next_dep.Goals as goal
 
 pub loop-n-init : goal.loop-n-init

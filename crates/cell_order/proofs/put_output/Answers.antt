@@ -1,6 +1,5 @@
 -- `cell_order::put_output` meets its contract. Assumes nothing.
 use Rattle.cell_order.proofs.Starts.{append-inside, append-done, append_left}
-use borrow.Author.Rules.{rules}
 use Rattle.cell_order.proofs.put_output.Goals as goal
 
 pub returns-then-bit_of-ne0 : goal.returns-then-bit_of-ne0

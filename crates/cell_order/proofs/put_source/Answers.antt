@@ -1,6 +1,5 @@
 -- `cell_order::put_source` meets its contract. Assumes nothing.
 use Rattle.cell_order.proofs.Starts.{emit-inside, emit-done, emit-left}
-use borrow.Author.Rules.{rules}
 use Rattle.cell_order.proofs.put_source.Goals as goal
 
 pub returns-then-bit_of-ne0 : goal.returns-then-bit_of-ne0

@@ -1,7 +1,6 @@
 -- `cell_order::put_sources` meets its contract. Assumes nothing.
 use Prim.Native.Nat.{◌-◌}
-use Rattle.cell_order.proofs.Starts.{Putting, putting-begins, putting-ready, putting-new, putting-more, putting-ends}
-use borrow.Author.Rules.{rules}
+use Rattle.cell_order.proofs.Starts.{putting-begins, putting-ready, putting-new, putting-more, putting-ends}
 use Rattle.cell_order.proofs.put_sources.Goals as goal
 
 pub loop-s-init : goal.loop-s-init

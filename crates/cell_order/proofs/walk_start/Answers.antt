@@ -1,6 +1,5 @@
 -- `cell_order::walk_start` meets its contract. Assumes nothing.
 use Rattle.cell_order.proofs.Starts.{start-inside, start-output, start_cell}
-use borrow.Author.Rules.{rules}
 use Rattle.cell_order.proofs.walk_start.Goals as goal
 
 pub returns-then-bit_of-ne0 : goal.returns-then-bit_of-ne0

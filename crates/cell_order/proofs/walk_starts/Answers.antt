@@ -1,8 +1,6 @@
 -- `cell_order::walk_starts` meets its contract. Assumes nothing.
 use Prim.Native.Nat.{◌-◌}
-use Rattle.cell_order.specs.inner.Starts.{not_output}
-use Rattle.cell_order.proofs.Starts.{Going, going-begins, going_more, going-ends}
-use borrow.Author.Rules.{rules}
+use Rattle.cell_order.proofs.Starts.{going-begins, going_more, going-ends}
 use Rattle.cell_order.proofs.walk_starts.Goals as goal
 
 pub loop-s-init : goal.loop-s-init

@@ -1,8 +1,7 @@
 -- `cell_order::walk_starts` meets its contract. Assumes nothing.
 use Prim.Native.Nat.{◌-◌}
 use Rattle.cell_order.specs.inner.Starts.{not_output}
-use Rattle.cell_order.proofs.Starts.{Going, going-begins, going_more, going-ends}
-use borrow.Author.Rules.{rules}
+use Rattle.cell_order.proofs.Starts.{Going}
 use Rattle.cell_order.proofs.walk_starts.Given as goal
 
 abbrev pub invariant-loop-s : goal.invariant-loop-s

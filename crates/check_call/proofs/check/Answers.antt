@@ -1,7 +1,6 @@
 -- `check_call::check` meets its contract. Assumes nothing.
 use Rattle.delivery.proofs.Shell.{begins-ends}
 use Rattle.check_call.proofs.Answers.{checked-few, checked_refused, checked-accepted}
-use borrow.Author.Rules.{rules}
 use Rattle.check_call.proofs.check.Goals as goal
 
 pub accepted-requires : goal.accepted-requires

@@ -1,10 +1,5 @@
-use borrow.Author.Rules.{rules}
-use native.Mathlib.Omega.{arith}
 use Prim.Native.Nat.{◌-◌}
-use mathlib.Core.Path.{ap}
-use Rattle.kinds.specs.declared.Kind.{Kind}
-use Rattle.kinds.proofs.Laws.{gates-one}
-use Rattle.checking.proofs.Records.{Counting, counts-none, counts-more, counts_all}
+use Rattle.checking.proofs.Records.{Counting}
 use Rattle.checking.proofs.gate_count.Given as goal
 
 abbrev pub invariant-loop-s : goal.invariant-loop-s

@@ -1,5 +1,4 @@
 use Rattle.checking.proofs.Records.{refuses-a, refuses-b, refuses-c, all-driven}
-use borrow.Author.Rules.{rules}
 use Rattle.checking.proofs.operand_verdict.Goals as goal
 
 pub returns-then-undriven_field : goal.returns-then-undriven_field

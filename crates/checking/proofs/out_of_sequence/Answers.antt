@@ -1,5 +1,4 @@
 use Rattle.checking.proofs.Records.{bit-first, bit-later}
-use borrow.Author.Rules.{rules}
 use Rattle.checking.proofs.out_of_sequence.Goals as goal
 
 pub returns-then-r-eq0 : goal.returns-then-r-eq0

@@ -1,8 +1,7 @@
 use native.Mathlib.Omega.{arith}
-use Prim.Native.Nat.{ℕ, ◌-◌}
-use mathlib.Core.Path.{◌≡◌, ◌∙◌, sym, ap}
+use Prim.Native.Nat.{◌-◌}
+use mathlib.Core.Path.{◌∙◌, ap}
 use Rattle.cell.specs.Records.{record_at}
-use borrow.Author.Rules.{rules}
 use Rattle.checking.proofs.record_before.Goals as goal
 
 pub record_at-requires : goal.record_at-requires

@@ -1,6 +1,5 @@
 use native.Mathlib.Omega.{arith}
 use Rattle.checking.proofs.Records.{refuses-4, refuses-5, refuses-6, operands-left}
-use borrow.Author.Rules.{rules}
 use Rattle.checking.proofs.record_verdict.Goals as goal
 
 pub record_at-r-requires : goal.record_at-r-requires

@@ -1,11 +1,6 @@
 use borrow.Author.Rules.{rules}
 use native.Mathlib.Omega.{arith}
-use Prim.Native.Nat.{◌≤◌, ◌-◌}
-use mathlib.Core.Path.{◌≡◌}
-use Rattle.cell.specs.Records.{records_of}
-use Rattle.refusals.specs.declared.Verdict.TheVariants.{Pass}
-use Rattle.refusals.specs.Refusals.{first_of, slot_by_slot}
-use Rattle.checking.specs.Checking.{record_stages}
+use Prim.Native.Nat.{◌-◌}
 use Rattle.refusals.proofs.Stages.{slots-none}
 use Rattle.checking.proofs.Records.{decided, passed, all-passed}
 use Rattle.checking.proofs.records_verdict.Goals as goal

@@ -1,5 +1,4 @@
 use Rattle.checking.specs.Checking.{reserved_field}
-use borrow.Author.Rules.{rules}
 use Rattle.checking.proofs.reserved_field.Goals as goal
 
 pub returns : goal.returns

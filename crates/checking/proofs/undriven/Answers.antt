@@ -1,6 +1,5 @@
 use native.Mathlib.Omega.{arith}
 use Rattle.checking.proofs.Records.{undriven-past, undriven-kind}
-use borrow.Author.Rules.{rules}
 use Rattle.checking.proofs.undriven.Goals as goal
 
 pub returns-then-n-s : goal.returns-then-n-s

@@ -1,5 +1,4 @@
 use Rattle.checking.proofs.Records.{field-operand, field-other}
-use borrow.Author.Rules.{rules}
 use Rattle.checking.proofs.undriven_field.Goals as goal
 
 pub returns-then-is_operand : goal.returns-then-is_operand

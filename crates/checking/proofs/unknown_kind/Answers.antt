@@ -1,5 +1,4 @@
 use Rattle.checking.specs.Checking.{unknown_kind}
-use borrow.Author.Rules.{rules}
 use Rattle.checking.proofs.unknown_kind.Goals as goal
 
 pub returns : goal.returns

@@ -1,4 +1,3 @@
-use borrow.Author.Rules.{rules}
 use Rattle.checking.proofs.unused_not_zero.Goals as goal
 
 pub returns-in-Unused : goal.returns-in-Unused

@@ -1,4 +1,4 @@
-use Rattle.compact.proofs.Compacting.{Writing, writing-none, writing-room, writing_more, writing-all}
+use Rattle.compact.proofs.Compacting.{writing-none, writing-room, writing_more, writing-all}
 use Prim.Native.Nat.{◌-◌}
 use native.Mathlib.Omega.{arith}
 use borrow.Author.Rules.{rules}

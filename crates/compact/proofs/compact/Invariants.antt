@@ -1,7 +1,5 @@
-use Rattle.compact.proofs.Compacting.{Writing, writing-none, writing-room, writing_more, writing-all}
+use Rattle.compact.proofs.Compacting.{Writing}
 use Prim.Native.Nat.{◌-◌}
-use native.Mathlib.Omega.{arith}
-use borrow.Author.Rules.{rules}
 use Rattle.compact.proofs.compact.Given as goal
 
 abbrev pub invariant-loop-s : goal.invariant-loop-s

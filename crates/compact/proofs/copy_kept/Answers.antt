@@ -1,5 +1,4 @@
 use Rattle.compact.proofs.Compacting.{copied, copied-inside, passed}
-use borrow.Author.Rules.{rules}
 use Rattle.compact.proofs.copy_kept.Goals as goal
 
 pub write_record-requires : goal.write_record-requires

@@ -1,5 +1,4 @@
 use Rattle.compact.proofs.Tally.{kept_read}
-use borrow.Author.Rules.{rules}
 use Rattle.compact.proofs.is_kept.Goals as goal
 
 pub returns : goal.returns

@@ -1,5 +1,4 @@
 use Rattle.compact.specs.inner.Words.{is_root}
-use borrow.Author.Rules.{rules}
 use Rattle.compact.proofs.is_root.Goals as goal
 
 pub returns : goal.returns

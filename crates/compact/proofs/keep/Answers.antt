@@ -1,5 +1,4 @@
 use Rattle.compact.proofs.Tallying.{keeps}
-use borrow.Author.Rules.{rules}
 use Rattle.compact.proofs.keep.Goals as goal
 
 pub returns : goal.returns

@@ -1,5 +1,4 @@
 use Rattle.compact.proofs.Keeping.{from-root, from-none}
-use borrow.Author.Rules.{rules}
 use Rattle.compact.proofs.keep_from.Goals as goal
 
 pub returns-then-is_root : goal.returns-then-is_root

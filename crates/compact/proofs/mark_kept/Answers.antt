@@ -1,7 +1,6 @@
-use Rattle.compact.proofs.Keeping.{Keeping, keeping-begins, keeping-more, keeping-ends}
+use Rattle.compact.proofs.Keeping.{keeping-begins, keeping-more, keeping-ends}
 use Prim.Native.Nat.{◌-◌}
 use native.Mathlib.Omega.{arith}
-use borrow.Author.Rules.{rules}
 use Rattle.compact.proofs.mark_kept.Goals as goal
 
 pub loop-s-init : goal.loop-s-init

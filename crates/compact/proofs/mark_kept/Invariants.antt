@@ -1,7 +1,5 @@
-use Rattle.compact.proofs.Keeping.{Keeping, keeping-begins, keeping-more, keeping-ends}
+use Rattle.compact.proofs.Keeping.{Keeping}
 use Prim.Native.Nat.{◌-◌}
-use native.Mathlib.Omega.{arith}
-use borrow.Author.Rules.{rules}
 use Rattle.compact.proofs.mark_kept.Given as goal
 
 abbrev pub invariant-loop-s : goal.invariant-loop-s

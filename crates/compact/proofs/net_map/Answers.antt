@@ -1,5 +1,4 @@
 use Rattle.compact.proofs.Compacting.{map-const, map-cell}
-use borrow.Author.Rules.{rules}
 use Rattle.compact.proofs.net_map.Goals as goal
 
 pub returns-in-Const : goal.returns-in-Const

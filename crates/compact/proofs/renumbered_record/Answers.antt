@@ -1,5 +1,4 @@
 use Rattle.netlist.specs.inner.Fields.{renamed_fields}
-use borrow.Author.Rules.{rules}
 use Rattle.compact.proofs.renumbered_record.Goals as goal
 
 pub returns : goal.returns

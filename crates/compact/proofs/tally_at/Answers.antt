@@ -1,5 +1,4 @@
 use Rattle.compact.proofs.Tally.{tally-read, tally-few, all_past, all-few}
-use borrow.Author.Rules.{rules}
 use Rattle.compact.proofs.tally_at.Goals as goal
 
 pub returns-then-x-n : goal.returns-then-x-n

@@ -1,7 +1,6 @@
-use Rattle.compact.proofs.Tallying.{Tallying, tallying-none, twice-fits, word_fits, next_fits, tallying-more, tallying-all}
+use Rattle.compact.proofs.Tallying.{tallying-none, twice-fits, word_fits, next_fits, tallying-more, tallying-all}
 use Prim.Native.Nat.{◌-◌}
 use native.Mathlib.Omega.{arith}
-use borrow.Author.Rules.{rules}
 use Rattle.compact.proofs.tally_kept.Goals as goal
 
 pub loop-s-init : goal.loop-s-init

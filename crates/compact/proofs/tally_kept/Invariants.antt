@@ -1,7 +1,5 @@
-use Rattle.compact.proofs.Tallying.{Tallying, tallying-none, twice-fits, word_fits, next_fits, tallying-more, tallying-all}
+use Rattle.compact.proofs.Tallying.{Tallying}
 use Prim.Native.Nat.{◌-◌}
-use native.Mathlib.Omega.{arith}
-use borrow.Author.Rules.{rules}
 use Rattle.compact.proofs.tally_kept.Given as goal
 
 abbrev pub invariant-loop-s : goal.invariant-loop-s

@@ -1,6 +1,5 @@
 -- `delivery::deliver` meets its contract. Assumes nothing.
 use Rattle.delivery.proofs.Delivering.{size_fits, compacts-none, compacts-all}
-use borrow.Author.Rules.{rules}
 use Rattle.delivery.proofs.deliver.Goals as goal
 
 pub overflow_mul-bytes : goal.overflow_mul-bytes

@@ -1,6 +1,5 @@
 -- `delivery::end` meets its contract. Assumes nothing.
 use Rattle.delivery.proofs.Work.{cleared-short, cleared-long}
-use borrow.Author.Rules.{rules}
 use Rattle.delivery.proofs.end.Goals as goal
 
 pub returns-then-work-ge16384 : goal.returns-then-work-ge16384

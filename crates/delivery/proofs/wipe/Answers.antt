@@ -1,8 +1,7 @@
 -- `delivery::wipe` meets its contract. Assumes nothing.
-use borrow.Author.Rules.{rules}
 use native.Mathlib.Omega.{arith}
 use Prim.Native.Nat.{◌-◌}
-use Rattle.delivery.proofs.Work.{Wiping, wiping-none, wiping-more, wiping-all}
+use Rattle.delivery.proofs.Work.{wiping-none, wiping-more, wiping-all}
 use Rattle.delivery.proofs.wipe.Goals as goal
 
 pub loop-i-init : goal.loop-i-init

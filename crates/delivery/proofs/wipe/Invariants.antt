@@ -1,8 +1,6 @@
 -- `delivery::wipe` meets its contract. Assumes nothing.
-use borrow.Author.Rules.{rules}
-use native.Mathlib.Omega.{arith}
 use Prim.Native.Nat.{◌-◌}
-use Rattle.delivery.proofs.Work.{Wiping, wiping-none, wiping-more, wiping-all}
+use Rattle.delivery.proofs.Work.{Wiping}
 use Rattle.delivery.proofs.wipe.Given as goal
 
 abbrev pub invariant-loop-i : goal.invariant-loop-i

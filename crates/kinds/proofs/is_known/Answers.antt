@@ -1,6 +1,5 @@
 use mathlib.Core.Path.{◌∙◌}
 use Rattle.kinds.proofs.Tests.{known_is}
-use borrow.Author.Rules.{rules}
 use Rattle.kinds.proofs.is_known.Goals as goal
 
 pub returns : goal.returns

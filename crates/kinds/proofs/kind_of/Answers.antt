@@ -1,6 +1,5 @@
 use mathlib.Core.Path.{ap, ◌∙◌}
 use Rattle.kinds.specs.Kinds.{kind_of, kind_table}
-use borrow.Author.Rules.{rules}
 use Rattle.kinds.proofs.kind_of.Goals as goal
 
 pub returns : goal.returns

@@ -1,4 +1,3 @@
-use mathlib.Core.Path.{◌∙◌}
 use Rattle.kinds.proofs.Tests.{net-in-c-is}
 use Rattle.kinds.proofs.net_in_c.Goals as goal
 

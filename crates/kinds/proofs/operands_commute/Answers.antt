@@ -1,6 +1,5 @@
 use mathlib.Core.Path.{◌∙◌}
 use Rattle.kinds.proofs.Tests.{commutes-is}
-use borrow.Author.Rules.{rules}
 use Rattle.kinds.proofs.operands_commute.Goals as goal
 
 pub returns : goal.returns

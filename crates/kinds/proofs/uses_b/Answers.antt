@@ -1,6 +1,5 @@
 use mathlib.Core.Path.{◌∙◌}
 use Rattle.kinds.proofs.Tests.{uses-b-is}
-use borrow.Author.Rules.{rules}
 use Rattle.kinds.proofs.uses_b.Goals as goal
 
 pub returns : goal.returns

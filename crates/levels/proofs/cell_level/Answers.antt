@@ -1,5 +1,4 @@
 use Rattle.levels.proofs.Cells.{input-level, output-level, buf-level, not-level, and-level, or-level, xor-level, mux-level, aig-level}
-use borrow.Author.Rules.{rules}
 use Rattle.levels.proofs.cell_level.Goals as goal
 
 pub returns-in-Input : goal.returns-in-Input

@@ -1,5 +1,4 @@
 use Rattle.levels.proofs.Cells.{control-pos, control-neg}
-use borrow.Author.Rules.{rules}
 use Rattle.levels.proofs.control_level.Goals as goal
 
 pub returns-in-Pos : goal.returns-in-Pos

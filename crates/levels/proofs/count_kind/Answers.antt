@@ -1,7 +1,6 @@
-use borrow.Author.Rules.{rules}
 use native.Mathlib.Omega.{arith}
 use Prim.Native.Nat.{◌-◌}
-use Rattle.levels.proofs.Slots.{Counting, counts-none, counts-more, counts_all}
+use Rattle.levels.proofs.Slots.{counts-none, counts-more, counts_all}
 use Rattle.levels.proofs.count_kind.Goals as goal
 
 pub loop-s-init : goal.loop-s-init

@@ -1,7 +1,5 @@
-use borrow.Author.Rules.{rules}
-use native.Mathlib.Omega.{arith}
 use Prim.Native.Nat.{◌-◌}
-use Rattle.levels.proofs.Slots.{Counting, counts-none, counts-more, counts_all}
+use Rattle.levels.proofs.Slots.{Counting}
 use Rattle.levels.proofs.count_kind.Given as goal
 
 abbrev pub invariant-loop-s : goal.invariant-loop-s

@@ -1,5 +1,4 @@
 use Rattle.levels.proofs.Given.{evaluated, evaluated-within}
-use borrow.Author.Rules.{rules}
 use Rattle.levels.proofs.evaluate.Goals as goal
 
 pub returns : goal.returns

@@ -1,7 +1,6 @@
-use borrow.Author.Rules.{rules}
 use native.Mathlib.Omega.{arith}
 use Prim.Native.Nat.{◌-◌}
-use Rattle.levels.proofs.Levels.{Folding, folding-none, folding-more, folding-all, folding-frame}
+use Rattle.levels.proofs.Levels.{folding-none, folding-more, folding-all, folding-frame}
 use Rattle.levels.proofs.fold.Goals as goal
 
 pub loop-i-init : goal.loop-i-init

@@ -1,7 +1,5 @@
-use borrow.Author.Rules.{rules}
-use native.Mathlib.Omega.{arith}
 use Prim.Native.Nat.{◌-◌}
-use Rattle.levels.proofs.Levels.{Folding, folding-none, folding-more, folding-all, folding-frame}
+use Rattle.levels.proofs.Levels.{Folding}
 use Rattle.levels.proofs.fold.Given as goal
 
 abbrev pub invariant-loop-i : goal.invariant-loop-i

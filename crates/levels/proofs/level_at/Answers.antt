@@ -1,5 +1,4 @@
 use Rattle.levels.proofs.Levels.{level-inside, level-past}
-use borrow.Author.Rules.{rules}
 use Rattle.levels.proofs.level_at.Goals as goal
 
 pub returns-then-i-n : goal.returns-then-i-n

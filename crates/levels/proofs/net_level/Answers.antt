@@ -1,5 +1,4 @@
 use Rattle.levels.proofs.Cells.{net-const, net-cell}
-use borrow.Author.Rules.{rules}
 use Rattle.levels.proofs.net_level.Goals as goal
 
 pub returns-in-Const : goal.returns-in-Const

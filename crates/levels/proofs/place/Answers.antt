@@ -1,7 +1,6 @@
-use Rattle.levels.proofs.Given.{Placing, placing-none, placing-more, placing-all, placing-frame}
+use Rattle.levels.proofs.Given.{placing-none, placing-more, placing-all, placing-frame}
 use Prim.Native.Nat.{◌-◌}
 use native.Mathlib.Omega.{arith}
-use borrow.Author.Rules.{rules}
 use Rattle.levels.proofs.place.Goals as goal
 
 pub loop-s-init : goal.loop-s-init

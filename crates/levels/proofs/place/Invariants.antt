@@ -1,7 +1,5 @@
-use Rattle.levels.proofs.Given.{Placing, placing-none, placing-more, placing-all, placing-frame}
+use Rattle.levels.proofs.Given.{Placing}
 use Prim.Native.Nat.{◌-◌}
-use native.Mathlib.Omega.{arith}
-use borrow.Author.Rules.{rules}
 use Rattle.levels.proofs.place.Given as goal
 
 abbrev pub invariant-loop-s : goal.invariant-loop-s

@@ -1,7 +1,6 @@
 use native.Mathlib.Omega.{arith}
 use Rattle.levels.proofs.Slots.{one_more, none_more}
 use Rattle.levels.proofs.Given.{taken-level, passed-level}
-use borrow.Author.Rules.{rules}
 use Rattle.levels.proofs.place_at.Goals as goal
 
 pub returns-then-kind-eq-INPUT : goal.returns-then-kind-eq-INPUT

@@ -1,5 +1,4 @@
 use Rattle.levels.proofs.Given.{stimulus-inside, stimulus-past}
-use borrow.Author.Rules.{rules}
 use Rattle.levels.proofs.stimulus_level.Goals as goal
 
 pub returns-then-i-stimulus : goal.returns-then-i-stimulus

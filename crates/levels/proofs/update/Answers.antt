@@ -1,6 +1,5 @@
 use Rattle.levels.proofs.Levels.{updated, updated-within, not-updated}
 use Rattle.netlist.proofs.Frames.{within_none}
-use borrow.Author.Rules.{rules}
 use Rattle.levels.proofs.update.Goals as goal
 
 pub returns-then-s-n : goal.returns-then-s-n

@@ -1,6 +1,5 @@
 -- `levels_call::evaluated` meets its contract. Assumes nothing.
 use Rattle.levels_call.proofs.Answering.{stimulus-refused, stimulus-passed}
-use borrow.Author.Rules.{rules}
 use Rattle.levels_call.proofs.evaluated.Goals as goal
 
 pub returns-in-Refused : goal.returns-in-Refused

@@ -1,8 +1,7 @@
 -- `levels_call::stimulus_verdict` meets its contract. Assumes nothing.
-use Rattle.levels_call.proofs.Stimulus.{Testing, wrong-count, testing-none, no-level, testing-more, tested}
+use Rattle.levels_call.proofs.Stimulus.{wrong-count, testing-none, no-level, testing-more, tested}
 use Prim.Native.Nat.{◌-◌}
 use native.Mathlib.Omega.{arith}
-use borrow.Author.Rules.{rules}
 use Rattle.levels_call.proofs.stimulus_verdict.Goals as goal
 
 pub returns-then-stimulus-count : goal.returns-then-stimulus-count

@@ -1,8 +1,6 @@
 -- `levels_call::stimulus_verdict` meets its contract. Assumes nothing.
-use Rattle.levels_call.proofs.Stimulus.{Testing, wrong-count, testing-none, no-level, testing-more, tested}
+use Rattle.levels_call.proofs.Stimulus.{Testing}
 use Prim.Native.Nat.{◌-◌}
-use native.Mathlib.Omega.{arith}
-use borrow.Author.Rules.{rules}
 use Rattle.levels_call.proofs.stimulus_verdict.Given as goal
 
 abbrev pub invariant-loop-i : goal.invariant-loop-i

@@ -3,7 +3,6 @@ use Rattle.levels.proofs.Slots.{one_more, none_more}
 use Rattle.levels_call.proofs.Outputs.{written-level, no-level-written}
 use Rattle.logic.proofs.Laws.{byte-bound}
 use native.Mathlib.Omega.{arith}
-use borrow.Author.Rules.{rules}
 use Rattle.levels_call.proofs.write_at.Goals as goal
 
 pub overflow_cast-to_byte : goal.overflow_cast-to_byte

@@ -1,8 +1,7 @@
 -- `levels_call::write_levels` meets its contract. Assumes nothing.
-use Rattle.levels_call.proofs.Outputs.{Writing, writing-none, writing_more, writing-all}
+use Rattle.levels_call.proofs.Outputs.{writing-none, writing_more, writing-all}
 use Prim.Native.Nat.{◌-◌}
 use native.Mathlib.Omega.{arith}
-use borrow.Author.Rules.{rules}
 use Rattle.levels_call.proofs.write_levels.Goals as goal
 
 pub loop-s-init : goal.loop-s-init

@@ -1,13 +1,9 @@
 -- The proof of the cycle of calls {meet, visit, visit_edge, visit_edges}. The measure is eight times the number of slots that are not
 -- visited, and less than eight more by the member. Assumes nothing.
-use borrow.Author.Rules.{rules}
-use native.Mathlib.Omega.{arith}
 use lib.ListN.{length}
 use Rattle.cell.specs.Records.{records_of}
 use Rattle.loops.specs.inner.Walk.{unvisited}
-use Rattle.loops.proofs.Marks.{opens}
-use Rattle.loops.proofs.Steps.{meet-new, meet-visited, meet-open, meet-passed, meet-finished, edges-inside, edges-looped, edges-ready, edges-falls, edges_more, more-looped, more-falls, more-ready, edge-nowhere, edge-coming, edge-met, visit-falls, visit-looped, visit-next, visit-done}
-use Prim.Native.Nat.{ℕ, ◌+◌, ◌*◌, ◌<◌}
+use Prim.Native.Nat.{◌+◌, ◌*◌}
 use Rattle.loops.proofs.+descent.Given as goal
 
 abbrev pub decreases-meet : goal.decreases-meet

@@ -1,7 +1,6 @@
 -- `loops::clear` meets its contract. Assumes nothing.
 use Prim.Native.Nat.{◌-◌}
-use borrow.Author.Rules.{rules}
-use Rattle.loops.proofs.Search.{Clearing, clearing-none, clearing-inside, clearing-more, clearing-all}
+use Rattle.loops.proofs.Search.{clearing-none, clearing-inside, clearing-more, clearing-all}
 use Rattle.loops.proofs.clear.Goals as goal
 
 pub loop-i-init : goal.loop-i-init

@@ -1,7 +1,6 @@
 -- `loops::clear` meets its contract. Assumes nothing.
 use Prim.Native.Nat.{◌-◌}
-use borrow.Author.Rules.{rules}
-use Rattle.loops.proofs.Search.{Clearing, clearing-none, clearing-inside, clearing-more, clearing-all}
+use Rattle.loops.proofs.Search.{Clearing}
 use Rattle.loops.proofs.clear.Given as goal
 
 abbrev pub invariant-loop-i : goal.invariant-loop-i

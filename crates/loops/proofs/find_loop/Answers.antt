@@ -1,6 +1,5 @@
 -- `loops::find_loop` meets its contract. Assumes nothing.
 use Rattle.loops.proofs.Search.{free-finds, then-finds}
-use borrow.Author.Rules.{rules}
 use Rattle.loops.proofs.find_loop.Goals as goal
 
 pub returns-then-walk_all : goal.returns-then-walk_all

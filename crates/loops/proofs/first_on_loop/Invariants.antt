@@ -1,8 +1,7 @@
 -- `loops::first_on_loop` meets its contract. Assumes nothing.
 use Prim.Native.Nat.{◌-◌}
 use Rattle.cell.specs.Records.{records_of}
-use Rattle.loops.proofs.Search.{Seeking, seeking-begins, seeking-more, seeking-found, seeking-ends}
-use borrow.Author.Rules.{rules}
+use Rattle.loops.proofs.Search.{Seeking}
 use Rattle.loops.proofs.first_on_loop.Given as goal
 
 abbrev pub invariant-loop-s : goal.invariant-loop-s

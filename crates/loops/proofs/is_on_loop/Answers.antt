@@ -1,6 +1,5 @@
 -- `loops::is_on_loop` meets its contract. Assumes nothing.
 use Rattle.loops.proofs.Search.{visit-begins, tells}
-use borrow.Author.Rules.{rules}
 use Rattle.loops.proofs.is_on_loop.Goals as goal
 
 pub visit-requires : goal.visit-requires

@@ -1,4 +1,3 @@
-use borrow.Author.Rules.{rules}
 use Rattle.loops.specs.inner.Walk.{stops_at}
 use Rattle.loops.proofs.stops.Goals as goal
 

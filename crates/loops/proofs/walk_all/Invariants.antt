@@ -1,8 +1,7 @@
 -- `loops::walk_all` meets its contract. Assumes nothing.
 use Prim.Native.Nat.{◌-◌}
 use Rattle.cell.specs.Records.{records_of}
-use Rattle.loops.proofs.Search.{Going, going-begins, going-coming, going_more, going-stuck, going-ends}
-use borrow.Author.Rules.{rules}
+use Rattle.loops.proofs.Search.{Going}
 use Rattle.loops.proofs.walk_all.Given as goal
 
 abbrev pub invariant-loop-i : goal.invariant-loop-i

@@ -1,8 +1,7 @@
 -- `merge::cell_end` meets its contract. Assumes nothing.
 use native.Mathlib.Omega.{arith}
 use Prim.Native.Nat.{◌-◌}
-use Rattle.merge.proofs.Cells.{Ending, ending-none, ending-stop, ending-more, ending-all}
-use borrow.Author.Rules.{rules}
+use Rattle.merge.proofs.Cells.{ending-none, ending-stop, ending-more, ending-all}
 use Rattle.merge.proofs.cell_end.Goals as goal
 
 pub overflow_add-e : goal.overflow_add-e

@@ -1,8 +1,6 @@
 -- `merge::cell_end` meets its contract. Assumes nothing.
-use native.Mathlib.Omega.{arith}
 use Prim.Native.Nat.{◌-◌}
-use Rattle.merge.proofs.Cells.{Ending, ending-none, ending-stop, ending-more, ending-all}
-use borrow.Author.Rules.{rules}
+use Rattle.merge.proofs.Cells.{Ending}
 use Rattle.merge.proofs.cell_end.Given as goal
 
 abbrev pub invariant-loop-e : goal.invariant-loop-e

@@ -1,7 +1,7 @@
 -- `merge::find_or_insert_all` meets its contract. Assumes nothing.
 use native.Mathlib.Omega.{arith}
 use Prim.Native.Nat.{◌-◌}
-use Rattle.merge.proofs.Numbering.{Numbering, numbering-none, numbering-keyed, numbering-more, numbering-all}
+use Rattle.merge.proofs.Numbering.{numbering-none, numbering-keyed, numbering-more, numbering-all}
 use borrow.Author.Rules.{rules}
 use Rattle.merge.proofs.find_or_insert_all.Goals as goal
 

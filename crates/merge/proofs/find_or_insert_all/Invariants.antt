@@ -1,8 +1,6 @@
 -- `merge::find_or_insert_all` meets its contract. Assumes nothing.
-use native.Mathlib.Omega.{arith}
 use Prim.Native.Nat.{◌-◌}
-use Rattle.merge.proofs.Numbering.{Numbering, numbering-none, numbering-keyed, numbering-more, numbering-all}
-use borrow.Author.Rules.{rules}
+use Rattle.merge.proofs.Numbering.{Numbering}
 use Rattle.merge.proofs.find_or_insert_all.Given as goal
 
 abbrev pub invariant-loop-i : goal.invariant-loop-i

@@ -1,6 +1,5 @@
 -- `merge::is_turned` meets its contract. Assumes nothing.
 use Rattle.merge.specs.inner.Words.{turned}
-use borrow.Author.Rules.{rules}
 use Rattle.merge.proofs.is_turned.Goals as goal
 
 pub returns : goal.returns

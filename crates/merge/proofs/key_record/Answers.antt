@@ -1,6 +1,5 @@
 -- `merge::key_record` meets its contract. Assumes nothing.
 use Rattle.merge.specs.inner.Words.{key_fields}
-use borrow.Author.Rules.{rules}
 use Rattle.merge.proofs.key_record.Goals as goal
 
 pub returns : goal.returns

@@ -1,6 +1,5 @@
 -- `merge::merge` meets its contract. Assumes nothing.
 use Rattle.merge.proofs.Merging.{merged}
-use borrow.Author.Rules.{rules}
 use Rattle.merge.proofs.merge.Goals as goal
 
 pub returns : goal.returns

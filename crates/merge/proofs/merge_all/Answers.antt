@@ -1,6 +1,5 @@
 -- `merge::merge_all` meets its contract. Assumes nothing.
 use Rattle.merge.proofs.Merging.{all-ordered, all-merged}
-use borrow.Author.Rules.{rules}
 use Rattle.merge.proofs.merge_all.Goals as goal
 
 pub merge_cells-requires : goal.merge_cells-requires

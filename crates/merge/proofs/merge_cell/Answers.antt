@@ -1,7 +1,6 @@
 -- `merge::merge_cell` meets its contract. Assumes nothing.
 use native.Mathlib.Omega.{arith}
 use Rattle.merge.proofs.Numbering.{keys-ready, keys-keyed, merges}
-use borrow.Author.Rules.{rules}
 use Rattle.merge.proofs.merge_cell.Goals as goal
 
 pub find_or_insert_all-requires : goal.find_or_insert_all-requires

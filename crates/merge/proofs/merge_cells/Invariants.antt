@@ -1,8 +1,6 @@
 -- `merge::merge_cells` meets its contract. Assumes nothing.
-use native.Mathlib.Omega.{arith}
 use Prim.Native.Nat.{◌-◌}
-use Rattle.merge.proofs.Merging.{Turning, turning-none, turning-inside, turning-room, turning-more, turning-all}
-use borrow.Author.Rules.{rules}
+use Rattle.merge.proofs.Merging.{Turning}
 use Rattle.merge.proofs.merge_cells.Given as goal
 
 abbrev pub invariant-loop-j : goal.invariant-loop-j

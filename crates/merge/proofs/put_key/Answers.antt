@@ -1,6 +1,5 @@
 -- `merge::put_key` meets its contract. Assumes nothing.
 use Rattle.merge.proofs.Cells.{key-put}
-use borrow.Author.Rules.{rules}
 use Rattle.merge.proofs.put_key.Goals as goal
 
 pub returns : goal.returns

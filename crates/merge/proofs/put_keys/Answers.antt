@@ -1,8 +1,7 @@
 -- `merge::put_keys` meets its contract. Assumes nothing.
 use native.Mathlib.Omega.{arith}
 use Prim.Native.Nat.{◌-◌}
-use Rattle.merge.proofs.Cells.{Keying, keying-none, keying-more, keying-all}
-use borrow.Author.Rules.{rules}
+use Rattle.merge.proofs.Cells.{keying-none, keying-more, keying-all}
 use Rattle.merge.proofs.put_keys.Goals as goal
 
 pub loop-i-init : goal.loop-i-init

@@ -1,8 +1,6 @@
 -- `merge::put_keys` meets its contract. Assumes nothing.
-use native.Mathlib.Omega.{arith}
 use Prim.Native.Nat.{◌-◌}
-use Rattle.merge.proofs.Cells.{Keying, keying-none, keying-more, keying-all}
-use borrow.Author.Rules.{rules}
+use Rattle.merge.proofs.Cells.{Keying}
 use Rattle.merge.proofs.put_keys.Given as goal
 
 abbrev pub invariant-loop-i : goal.invariant-loop-i

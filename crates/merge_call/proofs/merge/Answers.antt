@@ -9,10 +9,10 @@ use Rattle.merge_call.proofs.merge.Goals.{in-Refused, in-Pass}
 pub returns : goal.returns
 returns c =
     let all :
-      (c.match-begin.m ≡ merge_answer (length c.args.work.now) c.args.ticket.now c.args.reply.now)
-      × ((c.match-begin.reply ≡ merge_reply (length c.args.work.now) c.args.ticket.now c.args.reply.now)
-      × (c.end.new.work ≡ cleared c.args.work.now)) =
-      merge-called c.begin.ensures
-      (elim c.match-begin.branch [ in-Refused w ↦ search handed | in-Pass w ↦ search taken ])
-      c.end.ensures in
+    (c.match-begin.m ≡ merge_answer (length c.args.work.now) c.args.ticket.now c.args.reply.now)
+    × ((c.match-begin.reply ≡ merge_reply (length c.args.work.now) c.args.ticket.now c.args.reply.now)
+    × (c.end.new.work ≡ cleared c.args.work.now)) =
+    merge-called c.begin.ensures
+    (elim c.match-begin.branch [ in-Refused w ↦ search handed | in-Pass w ↦ search taken ])
+    c.end.ensures in
     record { value = all.0; reply_after = all.1.0; work_after = all.1.1 }

@@ -1,6 +1,5 @@
 -- `merge_call::merged` meets its contract. Assumes nothing.
 use Rattle.merge_call.proofs.Merging.{merged-delivers}
-use borrow.Author.Rules.{rules}
 use Rattle.merge_call.proofs.merged.Goals as goal
 
 pub returns : goal.returns

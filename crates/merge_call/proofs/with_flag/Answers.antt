@@ -1,5 +1,4 @@
 -- `merge_call::with_flag` meets its contract. Assumes nothing.
-use borrow.Author.Rules.{rules}
 use Rattle.merge_call.proofs.with_flag.Goals as goal
 
 pub returns-in-Accepted : goal.returns-in-Accepted

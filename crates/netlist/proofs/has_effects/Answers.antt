@@ -1,5 +1,4 @@
 use Rattle.netlist.specs.Shape.{has_effects}
-use borrow.Author.Rules.{rules}
 use Rattle.netlist.proofs.has_effects.Goals as goal
 
 pub returns-in-Input : goal.returns-in-Input

@@ -1,6 +1,5 @@
 -- `netlist::is_output` meets its contract. Assumes nothing.
 use Rattle.netlist.proofs.Cells.{output-word}
-use borrow.Author.Rules.{rules}
 use Rattle.netlist.proofs.is_output.Goals as goal
 
 pub returns : goal.returns

@@ -1,6 +1,5 @@
 use mathlib.Core.Path.{◌∙◌}
 use Rattle.netlist.proofs.Cells.{source-word}
-use borrow.Author.Rules.{rules}
 use Rattle.netlist.proofs.is_source.Goals as goal
 
 pub returns : goal.returns

@@ -1,7 +1,6 @@
-use borrow.Author.Rules.{rules}
 use native.Mathlib.Omega.{arith}
 use Prim.Native.Nat.{◌-◌}
-use Rattle.netlist.proofs.Areas.{Loading, loading-none, loading-more, loading-all, loading-frame}
+use Rattle.netlist.proofs.Areas.{loading-none, loading-more, loading-all, loading-frame}
 use Rattle.netlist.proofs.load.Goals as goal
 
 pub loop-s-init : goal.loop-s-init

@@ -1,7 +1,5 @@
-use borrow.Author.Rules.{rules}
-use native.Mathlib.Omega.{arith}
 use Prim.Native.Nat.{◌-◌}
-use Rattle.netlist.proofs.Areas.{Loading, loading-none, loading-more, loading-all, loading-frame}
+use Rattle.netlist.proofs.Areas.{Loading}
 use Rattle.netlist.proofs.load.Given as goal
 
 abbrev pub invariant-loop-s : goal.invariant-loop-s

@@ -1,5 +1,4 @@
 use Rattle.netlist.specs.inner.Areas.{store_words}
-use borrow.Author.Rules.{rules}
 use Rattle.netlist.proofs.put_record.Goals as goal
 
 pub returns : goal.returns

@@ -1,5 +1,4 @@
 use Rattle.netlist.specs.inner.Areas.{word_record}
-use borrow.Author.Rules.{rules}
 use Rattle.netlist.proofs.record_in.Goals as goal
 
 pub returns : goal.returns

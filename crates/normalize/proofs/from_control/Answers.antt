@@ -1,5 +1,4 @@
 use Rattle.normalize.specs.Outcomes.{from_control}
-use borrow.Author.Rules.{rules}
 use Rattle.std.proofs.lemmas.Grind.{common_steps}
 use native.Mathlib.Omega.{arith}
 use Rattle.normalize.proofs.from_control.Goals as goal

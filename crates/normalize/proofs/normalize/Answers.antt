@@ -1,5 +1,4 @@
 use Rattle.normalize.specs.Normalize.{normalize}
-use borrow.Author.Rules.{rules}
 use Rattle.std.proofs.lemmas.Grind.{common_steps}
 use native.Mathlib.Omega.{arith}
 use Rattle.normalize.proofs.normalize.Goals as goal

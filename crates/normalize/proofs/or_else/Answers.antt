@@ -1,5 +1,4 @@
 use Rattle.normalize.specs.Outcomes.{◌or_else◌}
-use borrow.Author.Rules.{rules}
 use Rattle.std.proofs.lemmas.Grind.{common_steps}
 use native.Mathlib.Omega.{arith}
 use Rattle.normalize.proofs.or_else.Goals as goal

@@ -1,8 +1,7 @@
 -- `numberer::count_mix` meets its contract. Assumes nothing.
-use Rattle.numberer.proofs.Mixing.{rounded, Counting, counting-none, counting-inside, counting-fits, counting_more, counting-all}
+use Rattle.numberer.proofs.Mixing.{counting-none, counting-inside, counting-fits, counting_more, counting-all}
 use Prim.Native.Nat.{◌-◌}
 use native.Mathlib.Omega.{arith}
-use borrow.Author.Rules.{rules}
 use Rattle.numberer.proofs.count_mix.Goals as goal
 
 pub loop-i-init : goal.loop-i-init

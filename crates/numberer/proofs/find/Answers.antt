@@ -1,6 +1,5 @@
 -- `numberer::find` meets its contract. Assumes nothing.
 use Rattle.numberer.proofs.Mixing.{none-there}
-use borrow.Author.Rules.{rules}
 use Rattle.numberer.proofs.find.Goals as goal
 
 pub returns-then-count_mix-eq0 : goal.returns-then-count_mix-eq0

@@ -1,5 +1,5 @@
 -- `numberer::find_first` meets its contract. Assumes nothing.
-use Rattle.numberer.proofs.Seeking.{Seeking, seeking-none, seeking-found, seeking-more, seeking-end}
+use Rattle.numberer.proofs.Seeking.{seeking-none, seeking-found, seeking-more, seeking-end}
 use Rattle.numberer.proofs.Mixing.{mixed-at}
 use Prim.Native.Nat.{◌-◌}
 use native.Mathlib.Omega.{arith}

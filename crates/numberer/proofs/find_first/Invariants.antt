@@ -1,9 +1,6 @@
 -- `numberer::find_first` meets its contract. Assumes nothing.
-use Rattle.numberer.proofs.Seeking.{Seeking, seeking-none, seeking-found, seeking-more, seeking-end}
-use Rattle.numberer.proofs.Mixing.{mixed-at}
+use Rattle.numberer.proofs.Seeking.{Seeking}
 use Prim.Native.Nat.{◌-◌}
-use native.Mathlib.Omega.{arith}
-use borrow.Author.Rules.{rules}
 use Rattle.numberer.proofs.find_first.Given as goal
 
 abbrev pub invariant-loop-i : goal.invariant-loop-i

@@ -1,6 +1,5 @@
 -- `numberer::mix` meets its contract. Assumes nothing.
 use Rattle.numberer.specs.inner.Words.{mix_of}
-use borrow.Author.Rules.{rules}
 use Rattle.numberer.proofs.mix.Goals as goal
 
 pub returns : goal.returns

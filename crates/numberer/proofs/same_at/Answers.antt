@@ -1,6 +1,5 @@
 -- `numberer::same_at` meets its contract. Assumes nothing.
 use Rattle.numberer.proofs.Mixing.{other-there, compared-there}
-use borrow.Author.Rules.{rules}
 use Rattle.numberer.proofs.same_at.Goals as goal
 
 pub returns-then-word-x : goal.returns-then-word-x

@@ -1,6 +1,5 @@
 -- `numberer::same_key` meets its contract. Assumes nothing.
 use Rattle.numberer.proofs.Seeking.{agree, differ}
-use borrow.Author.Rules.{rules}
 use Rattle.numberer.proofs.same_key.Goals as goal
 
 pub returns-then-x-y : goal.returns-then-x-y

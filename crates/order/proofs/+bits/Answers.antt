@@ -3,10 +3,8 @@
 use borrow.Author.Rules.{rules}
 use native.Mathlib.Omega.{arith}
 use lib.Dec.{lit≤}
-use Rattle.order.specs.inner.Code.{unvisited_in}
 use Rattle.order.proofs.Walking.{walks-visited, walks-ready, walks-falls, walks-falls-2, walks-ready-2, is-new, marked-falls, marked-ready}
 use Rattle.order.proofs.Bits.{net-constant, net-source, net-bit, operands-done, bit-next, bit-done}
-use Prim.Native.Nat.{ℕ, ◌+◌, ◌*◌, ◌<◌}
 use Rattle.order.proofs.+bits.Goals as goal
 
 pub visit_bit-walk_operands-c-requires : goal.visit_bit-walk_operands-c-requires

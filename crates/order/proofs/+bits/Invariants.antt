@@ -1,12 +1,7 @@
 -- The proof of the cycle of calls {visit_bit, walk_bit, walk_net, walk_operands}. The measure is eight times the number of items that are
 -- not visited, and less than eight more by the member. Assumes nothing.
-use borrow.Author.Rules.{rules}
-use native.Mathlib.Omega.{arith}
-use lib.Dec.{lit≤}
 use Rattle.order.specs.inner.Code.{unvisited_in}
-use Rattle.order.proofs.Walking.{walks-visited, walks-ready, walks-falls, walks-falls-2, walks-ready-2, is-new, marked-falls, marked-ready}
-use Rattle.order.proofs.Bits.{net-constant, net-source, net-bit, operands-done, bit-next, bit-done}
-use Prim.Native.Nat.{ℕ, ◌+◌, ◌*◌, ◌<◌}
+use Prim.Native.Nat.{◌+◌, ◌*◌}
 use Rattle.order.proofs.+bits.Given as goal
 
 abbrev pub decreases-visit_bit : goal.decreases-visit_bit

@@ -1,7 +1,6 @@
 -- `order::clear_marks` meets its contract. Assumes nothing.
 use Prim.Native.Nat.{◌-◌}
-use borrow.Author.Rules.{rules}
-use Rattle.order.proofs.Words.{Clearing, clearing-none, clearing-more, clearing-all}
+use Rattle.order.proofs.Words.{clearing-none, clearing-more, clearing-all}
 use Rattle.order.proofs.clear_marks.Goals as goal
 
 pub loop-i-init : goal.loop-i-init

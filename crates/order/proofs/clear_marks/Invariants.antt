@@ -1,7 +1,6 @@
 -- `order::clear_marks` meets its contract. Assumes nothing.
 use Prim.Native.Nat.{◌-◌}
-use borrow.Author.Rules.{rules}
-use Rattle.order.proofs.Words.{Clearing, clearing-none, clearing-more, clearing-all}
+use Rattle.order.proofs.Words.{Clearing}
 use Rattle.order.proofs.clear_marks.Given as goal
 
 abbrev pub invariant-loop-i : goal.invariant-loop-i

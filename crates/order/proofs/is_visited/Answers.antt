@@ -1,6 +1,5 @@
 -- `order::is_visited` meets its contract. Assumes nothing.
 use Rattle.order.proofs.Words.{mark-word, mark-none}
-use borrow.Author.Rules.{rules}
 use Rattle.order.proofs.is_visited.Goals as goal
 
 pub returns-then-s-n : goal.returns-then-s-n

@@ -1,7 +1,6 @@
 -- `order::topo_sort` meets its contract. Assumes nothing.
 use Prim.Native.Nat.{◌-◌}
-use borrow.Author.Rules.{rules}
-use Rattle.order.proofs.Bits.{Sorting, sorting-begins, sorting-more, sorting-ends}
+use Rattle.order.proofs.Bits.{Sorting}
 use Rattle.order.proofs.topo_sort.Given as goal
 
 abbrev pub invariant-loop-s : goal.invariant-loop-s

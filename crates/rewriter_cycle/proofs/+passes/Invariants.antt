@@ -1,14 +1,10 @@
 -- The proof of the cycle of rules and adder. The number that falls is eight times the weight of the cell at hand, and a rank by the member: 0 for the arms of
 -- `SimpleAigOpt`, 1 for `simple_aig_opt`, 2 for `process_cell`, 3 for `add_cell`. Assumes nothing.
-use Prim.Native.Nat.{◌+◌, ◌*◌, ◌<◌}
-use native.Mathlib.Omega.{arith}
-use borrow.Author.Rules.{rules}
+use Prim.Native.Nat.{◌+◌, ◌*◌}
 use Rattle.cell.specs.declared.Cell.TheVariants.{And, Or, Xor, Aig}
 use Rattle.rewrite.specs.Rewriter.{weight}
 use Rattle.rewriter_state.specs.inner.Words.{rewriter_in}
-use Rattle.rewriter_cycle.proofs.Arms.{aig-no-add, aig-no-both, xor-no-add, xor-no-both, normalize-no-add, normalize-no-not, normalize-no-both}
-use Rattle.rewriter_cycle.proofs.Passes.{none-held, cell-held, add_none, add-cell, add-value, add-full, opted-none, opted-value, opted-form, and-ready, and-falls, and-value, and-full, or-ready, or-falls, or-not-ready, or-not-falls, or-performs, or-full, inverse-ready, inverse-falls, inverse-performs, arm-ready, arm-falls, arm-performs, not-performs, input-performs, output-performs, buf-performs, mux-performs, Forms, forms-begin, forms-ready, forms-fall, normal-value, normal-less, normal-form, forms-held, forms-asked, forms-value, forms-full, forms-less, forms-on}
-use Prim.Native.Nat.{ℕ}
+use Rattle.rewriter_cycle.proofs.Passes.{Forms}
 use Rattle.rewriter_cycle.proofs.+passes.Given as goal
 
 abbrev pub decreases-add_cell : goal.decreases-add_cell

@@ -1,6 +1,5 @@
 -- `rewriter_cycle::aig_outcome` meets its contract. Assumes nothing.
 use Rattle.rewriter_cycle.proofs.Arms.{aig-arm}
-use borrow.Author.Rules.{rules}
 use Rattle.rewriter_cycle.proofs.aig_outcome.Goals as goal
 
 pub returns : goal.returns

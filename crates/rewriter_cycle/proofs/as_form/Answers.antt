@@ -1,5 +1,4 @@
 -- `rewriter_cycle::as_form` meets its contract. Assumes nothing.
-use borrow.Author.Rules.{rules}
 use Rattle.rewriter_cycle.proofs.as_form.Goals as goal
 
 pub returns-then-replaced : goal.returns-then-replaced

@@ -1,6 +1,5 @@
 -- `rewriter_cycle::asked` meets its contract. Assumes nothing.
 use Rattle.rewriter_cycle.proofs.Passes.{asked-found, asked-new}
-use borrow.Author.Rules.{rules}
 use Rattle.rewriter_cycle.proofs.asked.Goals as goal
 
 pub returns-in-At : goal.returns-in-At

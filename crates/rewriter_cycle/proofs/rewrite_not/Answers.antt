@@ -1,7 +1,6 @@
 -- `rewriter_cycle::rewrite_not` meets its contract. Assumes nothing.
 use Rattle.rewriter_cycle.proofs.Arms.{not-adds}
 use Rattle.rewriter_cycle.proofs.Passes.{not-unadded}
-use borrow.Author.Rules.{rules}
 use Rattle.rewriter_cycle.proofs.rewrite_not.Goals as goal
 
 pub unadded-requires : goal.unadded-requires

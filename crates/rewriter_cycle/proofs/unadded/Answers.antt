@@ -1,5 +1,4 @@
 -- `rewriter_cycle::unadded` meets its contract. Assumes nothing.
-use borrow.Author.Rules.{rules}
 use Rattle.rewriter_cycle.proofs.unadded.Goals as goal
 
 pub returns-in-None : goal.returns-in-None

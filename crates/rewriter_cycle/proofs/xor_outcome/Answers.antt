@@ -1,6 +1,5 @@
 -- `rewriter_cycle::xor_outcome` meets its contract. Assumes nothing.
 use Rattle.rewriter_cycle.proofs.Arms.{xor-arm}
-use borrow.Author.Rules.{rules}
 use Rattle.rewriter_cycle.proofs.xor_outcome.Goals as goal
 
 pub returns : goal.returns

@@ -1,6 +1,5 @@
 -- `rewriter_state::become_cell` meets its contract. Assumes nothing.
 use Rattle.rewriter_state.proofs.Words.{become-ready, becomes}
-use borrow.Author.Rules.{rules}
 use Rattle.rewriter_state.proofs.become_cell.Goals as goal
 
 pub stay-requires : goal.stay-requires

@@ -1,8 +1,7 @@
 -- `rewriter_state::clear_stamps` meets its contract. Assumes nothing.
-use Rattle.rewriter_state.proofs.Standing.{Unstamping, unstamping-none, unstamping-more, unstamping-all}
+use Rattle.rewriter_state.proofs.Standing.{unstamping-none, unstamping-more, unstamping-all}
 use Prim.Native.Nat.{◌-◌}
 use native.Mathlib.Omega.{arith}
-use borrow.Author.Rules.{rules}
 use Rattle.rewriter_state.proofs.clear_stamps.Goals as goal
 
 pub loop-s-init : goal.loop-s-init

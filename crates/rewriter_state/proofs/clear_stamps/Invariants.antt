@@ -1,8 +1,6 @@
 -- `rewriter_state::clear_stamps` meets its contract. Assumes nothing.
-use Rattle.rewriter_state.proofs.Standing.{Unstamping, unstamping-none, unstamping-more, unstamping-all}
+use Rattle.rewriter_state.proofs.Standing.{Unstamping}
 use Prim.Native.Nat.{◌-◌}
-use native.Mathlib.Omega.{arith}
-use borrow.Author.Rules.{rules}
 use Rattle.rewriter_state.proofs.clear_stamps.Given as goal
 
 abbrev pub invariant-loop-s : goal.invariant-loop-s

@@ -1,6 +1,5 @@
 -- `rewriter_state::find_cell` meets its contract. Assumes nothing.
 use Rattle.rewriter_state.proofs.Looking.{unstamped, stamped}
-use borrow.Author.Rules.{rules}
 use Rattle.rewriter_state.proofs.find_cell.Goals as goal
 
 pub returns-then-stamp_of-eq0 : goal.returns-then-stamp_of-eq0

@@ -1,6 +1,5 @@
 -- `rewriter_state::find_new_cell` meets its contract. Assumes nothing.
 use Rattle.rewriter_state.proofs.Looking.{source-const, source-cell, source-past}
-use borrow.Author.Rules.{rules}
 use Rattle.rewriter_state.proofs.find_new_cell.Goals as goal
 
 pub returns-then-s-x : goal.returns-then-s-x

@@ -1,7 +1,6 @@
 -- `rewriter_state::remember` meets its contract. Assumes nothing.
 use Rattle.numberer.proofs.Inserting.{inserts}
 use native.Mathlib.Omega.{arith}
-use borrow.Author.Rules.{rules}
 use Rattle.rewriter_state.proofs.remember.Goals as goal
 
 pub overflow_cast-s : goal.overflow_cast-s

@@ -1,6 +1,5 @@
 -- `rewriter_state::replace` meets its contract. Assumes nothing.
 use Rattle.rewriter_state.proofs.Words.{replaces}
-use borrow.Author.Rules.{rules}
 use Rattle.rewriter_state.proofs.replace.Goals as goal
 
 pub returns : goal.returns

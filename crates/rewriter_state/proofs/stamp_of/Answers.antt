@@ -1,6 +1,5 @@
 -- `rewriter_state::stamp_of` meets its contract. Assumes nothing.
 use Rattle.rewriter_state.proofs.Looking.{stamp-const, stamp-cell, stamp-past}
-use borrow.Author.Rules.{rules}
 use Rattle.rewriter_state.proofs.stamp_of.Goals as goal
 
 pub returns-then-s-x : goal.returns-then-s-x

@@ -1,8 +1,7 @@
 -- `rewriter_state::stand` meets its contract. Assumes nothing.
-use Rattle.rewriter_state.proofs.Standing.{Standing, standing-none, standing-more, standing-all}
+use Rattle.rewriter_state.proofs.Standing.{standing-none, standing-more, standing-all}
 use Prim.Native.Nat.{◌-◌}
 use native.Mathlib.Omega.{arith}
-use borrow.Author.Rules.{rules}
 use Rattle.rewriter_state.proofs.stand.Goals as goal
 
 pub loop-s-init : goal.loop-s-init

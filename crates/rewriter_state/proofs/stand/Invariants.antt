@@ -1,8 +1,6 @@
 -- `rewriter_state::stand` meets its contract. Assumes nothing.
-use Rattle.rewriter_state.proofs.Standing.{Standing, standing-none, standing-more, standing-all}
+use Rattle.rewriter_state.proofs.Standing.{Standing}
 use Prim.Native.Nat.{◌-◌}
-use native.Mathlib.Omega.{arith}
-use borrow.Author.Rules.{rules}
 use Rattle.rewriter_state.proofs.stand.Given as goal
 
 abbrev pub invariant-loop-s : goal.invariant-loop-s

@@ -1,6 +1,5 @@
 -- `rewriter_state::stay` meets its contract. Assumes nothing.
 use Rattle.rewriter_state.proofs.Words.{stays}
-use borrow.Author.Rules.{rules}
 use Rattle.rewriter_state.proofs.stay.Goals as goal
 
 pub returns : goal.returns

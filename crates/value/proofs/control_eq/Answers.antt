@@ -1,5 +1,4 @@
 -- `value::control_eq` meets its contract. Assumes nothing.
-use borrow.Author.Rules.{rules}
 use Rattle.value.specs.Value.{eq_control}
 use Rattle.value.proofs.control_eq.Goals as goal
 

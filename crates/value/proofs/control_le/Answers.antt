@@ -1,5 +1,4 @@
 -- `value::control_le` meets its contract. Assumes nothing.
-use borrow.Author.Rules.{rules}
 use Rattle.value.specs.Value.{le_control}
 use Rattle.value.proofs.control_le.Goals as goal
 

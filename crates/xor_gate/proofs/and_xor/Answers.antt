@@ -1,6 +1,5 @@
 use Rattle.normalize.proofs.First.{held, failed, held-last, failed-last}
 use Rattle.aig.specs.Aig.{and_xor}
-use borrow.Author.Rules.{rules}
 use Rattle.xor_gate.proofs.and_xor.Goals as goal
 
 pub returns-then-control_eq : goal.returns-then-control_eq

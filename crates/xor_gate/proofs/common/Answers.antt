@@ -1,5 +1,4 @@
 use Rattle.normalize.proofs.First.{held-last, failed-last}
-use borrow.Author.Rules.{rules}
 use Rattle.xor_gate.proofs.common.Goals as goal
 
 pub returns-then-net_eq : goal.returns-then-net_eq

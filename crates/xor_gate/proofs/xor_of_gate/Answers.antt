@@ -1,7 +1,6 @@
 use Rattle.normalize.specs.Outcomes.{◌or_else◌}
 use Rattle.normalize.proofs.First.{none-or_else, or_else-none}
 use Rattle.aig.specs.Aig.{if_not, if_aig, if_xor}
-use borrow.Author.Rules.{rules}
 use Rattle.std.proofs.lemmas.Grind.{common_steps}
 use native.Mathlib.Omega.{arith}
 use Rattle.xor_gate.proofs.xor_of_gate.Goals as goal

@@ -1,6 +1,5 @@
 use Rattle.normalize.proofs.First.{first, second}
 use Rattle.aig.specs.Aig.{xor_rule}
-use borrow.Author.Rules.{rules}
 use Rattle.xor_gate.proofs.xor_rule.Goals as goal
 
 pub returns-then-applies : goal.returns-then-applies

@@ -1,5 +1,4 @@
 use Rattle.aig.proofs.Sources.{of_xor, no-xor}
-use borrow.Author.Rules.{rules}
 use Rattle.xor_gate.proofs.xor_with_xor.Goals as goal
 
 pub returns-in-Of : goal.returns-in-Of

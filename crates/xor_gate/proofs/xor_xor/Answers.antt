@@ -1,6 +1,5 @@
 use Rattle.normalize.proofs.First.{held, failed}
 use Rattle.aig.specs.Aig.{xor_xor}
-use borrow.Author.Rules.{rules}
 use Rattle.xor_gate.proofs.xor_xor.Goals as goal
 
 pub returns-then-net_eq : goal.returns-then-net_eq

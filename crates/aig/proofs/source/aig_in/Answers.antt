@@ -1,5 +1,4 @@
 use Rattle.aig.specs.inner.Sources.{aig_in}
-use borrow.Author.Rules.{rules}
 use Rattle.aig.proofs.source.aig_in.Goals as goal
 
 pub returns-in-Opaque : goal.returns-in-Opaque

@@ -1,5 +1,4 @@
 use Rattle.aig.specs.inner.Sources.{not_in}
-use borrow.Author.Rules.{rules}
 use Rattle.aig.proofs.source.not_in.Goals as goal
 
 pub returns-in-Opaque : goal.returns-in-Opaque

@@ -1,5 +1,4 @@
 use Rattle.aig.specs.inner.Sources.{xor_in}
-use borrow.Author.Rules.{rules}
 use Rattle.aig.proofs.source.xor_in.Goals as goal
 
 pub returns-in-Opaque : goal.returns-in-Opaque

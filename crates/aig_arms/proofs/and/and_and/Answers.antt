@@ -1,6 +1,5 @@
 use Rattle.normalize.proofs.First.{held, failed, held-last, failed-last}
 use Rattle.aig.specs.Aig.{and_and}
-use borrow.Author.Rules.{rules}
 use Rattle.aig_arms.proofs.and.and_and.Goals as goal
 
 pub returns-then-control_eq : goal.returns-then-control_eq

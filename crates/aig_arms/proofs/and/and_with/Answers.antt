@@ -1,6 +1,5 @@
 use Rattle.normalize.proofs.First.{control-applies, held, failed}
 use Rattle.aig.specs.Aig.{and_with}
-use borrow.Author.Rules.{rules}
 use Rattle.aig_arms.proofs.and.and_with.Goals as goal
 
 pub returns-then-control_eq : goal.returns-then-control_eq

@@ -1,6 +1,5 @@
 use Rattle.normalize.proofs.First.{held-last, failed-last}
 use Rattle.aig.proofs.Sources.{no-aig, of-aig}
-use borrow.Author.Rules.{rules}
 use Rattle.aig_arms.proofs.and.and_with_and.Goals as goal
 
 pub returns-then-is_positive : goal.returns-then-is_positive

@@ -1,4 +1,3 @@
-use borrow.Author.Rules.{rules}
 use Rattle.aig_arms.proofs.nand.inverse.Goals as goal
 
 pub returns : goal.returns

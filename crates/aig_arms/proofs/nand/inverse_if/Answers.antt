@@ -1,4 +1,3 @@
-
 use Rattle.aig_arms.proofs.nand.inverse_if.Goals as goal
 
 pub returns-then-inverted : goal.returns-then-inverted

@@ -1,6 +1,5 @@
 use Rattle.normalize.proofs.First.{control-applies, held, failed, held-last, failed-last, barred-both, passed-both}
 use Rattle.aig.specs.Aig.{nand_nand}
-use borrow.Author.Rules.{rules}
 use Rattle.aig_arms.proofs.nand.nand_nand.Goals as goal
 
 pub returns-then-not-opposite : goal.returns-then-not-opposite

@@ -1,5 +1,4 @@
 use Rattle.aig.proofs.Sources.{of-aigs, no-aigs}
-use borrow.Author.Rules.{rules}
 use Rattle.aig_arms.proofs.nand.nand_with_aig.Goals as goal
 
 pub returns-in-Of : goal.returns-in-Of

@@ -1,5 +1,4 @@
 use Rattle.aig.specs.Aig.{xor_of}
-use borrow.Author.Rules.{rules}
 use Rattle.aig_arms.proofs.nand.xor_of.Goals as goal
 
 pub returns : goal.returns

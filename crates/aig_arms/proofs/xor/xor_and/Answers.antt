@@ -1,6 +1,5 @@
 use Rattle.normalize.proofs.First.{held-last, failed-last}
 use Rattle.aig.specs.Aig.{xor_and}
-use borrow.Author.Rules.{rules}
 use Rattle.aig_arms.proofs.xor.xor_and.Goals as goal
 
 pub returns-then-net_eq : goal.returns-then-net_eq

@@ -1,6 +1,5 @@
 use Rattle.normalize.proofs.First.{first, second}
 use Rattle.aig.specs.Aig.{xor_with}
-use borrow.Author.Rules.{rules}
 use Rattle.aig_arms.proofs.xor.xor_with.Goals as goal
 
 pub returns-then-applies : goal.returns-then-applies

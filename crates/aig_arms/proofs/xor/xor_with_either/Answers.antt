@@ -1,5 +1,4 @@
 use Rattle.normalize.proofs.First.{first, second}
-use borrow.Author.Rules.{rules}
 use Rattle.aig_arms.proofs.xor.xor_with_either.Goals as goal
 
 pub returns-then-applies : goal.returns-then-applies

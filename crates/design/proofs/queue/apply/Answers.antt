@@ -1,7 +1,6 @@
-use Rattle.design.proofs.Applying.{Applying, applying-none, applying-more, applied-all, applied-flag, applied-frame}
+use Rattle.design.proofs.Applying.{applying-none, applying-more, applied-all, applied-flag, applied-frame}
 use Prim.Native.Nat.{◌-◌}
 use native.Mathlib.Omega.{arith}
-use borrow.Author.Rules.{rules}
 use Rattle.design.proofs.queue.apply.Goals as goal
 
 pub loop-s-init : goal.loop-s-init

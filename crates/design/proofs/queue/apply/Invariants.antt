@@ -1,7 +1,5 @@
-use Rattle.design.proofs.Applying.{Applying, applying-none, applying-more, applied-all, applied-flag, applied-frame}
+use Rattle.design.proofs.Applying.{Applying}
 use Prim.Native.Nat.{◌-◌}
-use native.Mathlib.Omega.{arith}
-use borrow.Author.Rules.{rules}
 use Rattle.design.proofs.queue.apply.Given as goal
 
 abbrev pub invariant-loop-s : goal.invariant-loop-s

@@ -1,5 +1,4 @@
 use Rattle.design.proofs.Applying.{applies}
-use borrow.Author.Rules.{rules}
 use Rattle.design.proofs.queue.apply_to.Goals as goal
 
 pub returns : goal.returns

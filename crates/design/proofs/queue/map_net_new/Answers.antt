@@ -1,6 +1,5 @@
-use Rattle.design.proofs.Replacing.{Following, follows-none, follows-end, follows-stop, follows-more}
+use Rattle.design.proofs.Replacing.{follows-none, follows-end, follows-stop, follows-more}
 use native.Mathlib.Omega.{arith}
-use borrow.Author.Rules.{rules}
 use Rattle.design.proofs.queue.map_net_new.Goals as goal
 
 pub loop-left-init : goal.loop-left-init

@@ -1,6 +1,4 @@
-use Rattle.design.proofs.Replacing.{Following, follows-none, follows-end, follows-stop, follows-more}
-use native.Mathlib.Omega.{arith}
-use borrow.Author.Rules.{rules}
+use Rattle.design.proofs.Replacing.{Following}
 use Rattle.design.proofs.queue.map_net_new.Given as goal
 
 abbrev pub invariant-loop-left : goal.invariant-loop-left

@@ -1,5 +1,4 @@
 use Rattle.netlist.specs.inner.Fields.{renamed_fields}
-use borrow.Author.Rules.{rules}
 use Rattle.design.proofs.queue.put_replaced.Goals as goal
 
 pub returns : goal.returns

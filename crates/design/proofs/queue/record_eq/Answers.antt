@@ -1,5 +1,4 @@
 use Rattle.design.specs.Queue.{eq_record}
-use borrow.Author.Rules.{rules}
 use Rattle.design.proofs.queue.record_eq.Goals as goal
 
 pub returns : goal.returns

@@ -1,5 +1,4 @@
 use Rattle.design.proofs.Replacing.{replaces, replaces-frame}
-use borrow.Author.Rules.{rules}
 use Rattle.design.proofs.queue.replace_net.Goals as goal
 
 pub returns : goal.returns

@@ -1,5 +1,4 @@
 use Rattle.design.proofs.Replacing.{step-const, step-cell, step_past}
-use borrow.Author.Rules.{rules}
 use Rattle.design.proofs.queue.replaced_by.Goals as goal
 
 pub returns-then-s-n : goal.returns-then-s-n

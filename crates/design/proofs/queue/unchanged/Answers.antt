@@ -1,7 +1,6 @@
-use Rattle.design.proofs.Replacing.{Unchanging, unchanging-none, unchanging-more, unchanging-all, unchanging-frame}
+use Rattle.design.proofs.Replacing.{unchanging-none, unchanging-more, unchanging-all, unchanging-frame}
 use Prim.Native.Nat.{◌-◌}
 use native.Mathlib.Omega.{arith}
-use borrow.Author.Rules.{rules}
 use Rattle.design.proofs.queue.unchanged.Goals as goal
 
 pub loop-s-init : goal.loop-s-init

@@ -1,7 +1,5 @@
-use Rattle.design.proofs.Replacing.{Unchanging, unchanging-none, unchanging-more, unchanging-all, unchanging-frame}
+use Rattle.design.proofs.Replacing.{Unchanging}
 use Prim.Native.Nat.{◌-◌}
-use native.Mathlib.Omega.{arith}
-use borrow.Author.Rules.{rules}
 use Rattle.design.proofs.queue.unchanged.Given as goal
 
 abbrev pub invariant-loop-s : goal.invariant-loop-s

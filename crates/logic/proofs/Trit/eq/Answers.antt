@@ -1,5 +1,4 @@
 -- `logic::Trit::eq` meets its contract. Assumes nothing.
-use borrow.Author.Rules.{rules}
 use Rattle.logic.specs.Levels.{eq_level}
 use Rattle.logic.proofs.Trit.eq.Goals as goal
 

@@ -3,7 +3,6 @@ use Rattle.value.specs.Value.{net_at}
 use Rattle.kinds.specs.Kinds.{use_of}
 use Rattle.cell.specs.Operands.{field_of, is_operand}
 use Rattle.netlist.specs.inner.Fields.{operand_at}
-use borrow.Author.Rules.{rules}
 use Rattle.netlist.proofs.fields.net_b.Goals as goal
 
 pub returns : goal.returns

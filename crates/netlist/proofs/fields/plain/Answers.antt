@@ -1,6 +1,5 @@
 use Rattle.netlist.specs.inner.Fields.{plain_fields}
 use Rattle.netlist.proofs.Operands.{plain-is}
-use borrow.Author.Rules.{rules}
 use Rattle.netlist.proofs.fields.plain.Goals as goal
 
 pub returns : goal.returns

@@ -1,7 +1,6 @@
 use Rattle.kinds.specs.Kinds.{use_of}
 use Rattle.cell.specs.Operands.{field_of, is_operand}
 use Rattle.netlist.specs.inner.Fields.{with_nets}
-use borrow.Author.Rules.{rules}
 use Rattle.netlist.proofs.fields.with_nets.Goals as goal
 
 pub returns : goal.returns

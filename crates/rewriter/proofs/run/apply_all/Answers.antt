@@ -1,6 +1,5 @@
 -- `rewriter::run::apply_all` meets its contract. Assumes nothing.
 use Rattle.rewriter.proofs.Applying.{applies-all}
-use borrow.Author.Rules.{rules}
 use Rattle.rewriter.proofs.run.apply_all.Goals as goal
 
 pub returns : goal.returns

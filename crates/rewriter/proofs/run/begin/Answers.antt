@@ -1,6 +1,5 @@
 -- `rewriter::run::begin` meets its contract. Assumes nothing.
 use Rattle.rewriter.proofs.Runs.{run-begins}
-use borrow.Author.Rules.{rules}
 use Rattle.rewriter.proofs.run.begin.Goals as goal
 
 pub returns : goal.returns

@@ -1,6 +1,5 @@
 -- `rewriter::run::mapped_cell` meets its contract. Assumes nothing.
 use Rattle.rewriter.proofs.Items.{mapped-is}
-use borrow.Author.Rules.{rules}
 use Rattle.rewriter.proofs.run.mapped_cell.Goals as goal
 
 pub returns : goal.returns

@@ -1,6 +1,5 @@
 -- `rewriter::run::rewrite` meets its contract. Assumes nothing.
 use Rattle.rewriter.proofs.Runs.{run-ready, run-running, run-rewritten, run-full}
-use borrow.Author.Rules.{rules}
 use Rattle.rewriter.proofs.run.rewrite.Goals as goal
 
 pub run_items-requires : goal.run_items-requires

@@ -1,6 +1,5 @@
 -- `rewriter::run::run_bit` meets its contract. Assumes nothing.
 use Rattle.rewriter.proofs.Items.{added-ready, bit-on, bit-full}
-use borrow.Author.Rules.{rules}
 use Rattle.rewriter.proofs.run.run_bit.Goals as goal
 
 pub replace-requires : goal.replace-requires

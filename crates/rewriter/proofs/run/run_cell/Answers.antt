@@ -1,6 +1,5 @@
 -- `rewriter::run::run_cell` meets its contract. Assumes nothing.
 use Rattle.rewriter.proofs.Items.{none-ready, none-on, cell-ready, cell-on, value-ready, value_on, cell_full}
-use borrow.Author.Rules.{rules}
 use Rattle.rewriter.proofs.run.run_cell.Goals as goal
 
 pub stay-requires : goal.stay-requires

@@ -1,6 +1,5 @@
 -- `rewriter::run::run_item` meets its contract. Assumes nothing.
 use Rattle.rewriter.proofs.Items.{item-slot, item-ready, item-effects, item-bit, item-cell}
-use borrow.Author.Rules.{rules}
 use Rattle.rewriter.proofs.run.run_item.Goals as goal
 
 pub mapped_cell-c-requires : goal.mapped_cell-c-requires

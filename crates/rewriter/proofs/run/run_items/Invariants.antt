@@ -1,8 +1,6 @@
 -- `rewriter::run::run_items` meets its contract. Assumes nothing.
-use borrow.Author.Rules.{rules}
-use native.Mathlib.Omega.{arith}
 use Prim.Native.Nat.{◌-◌}
-use Rattle.rewriter.proofs.Items.{Rolling, rolling-none, rolling-ready, rolling-more, rolling-full, rolling-end}
+use Rattle.rewriter.proofs.Items.{Rolling}
 use Rattle.rewriter.proofs.run.run_items.Given as goal
 
 abbrev pub invariant-loop-j : goal.invariant-loop-j

@@ -1,5 +1,4 @@
 -- `value::ControlNet::canonicalize` meets its contract. Assumes nothing.
-use borrow.Author.Rules.{rules}
 use Rattle.value.specs.Value.{canonicalize}
 use Rattle.std.proofs.lemmas.Grind.{common_steps}
 use native.Mathlib.Omega.{arith}

@@ -1,5 +1,4 @@
 -- `value::ControlNet::is_always` meets its contract. Assumes nothing.
-use borrow.Author.Rules.{rules}
 use Rattle.value.specs.Value.{is_always}
 use Rattle.value.proofs.ControlNet.is_always.Goals as goal
 

@@ -1,5 +1,4 @@
 -- `value::ControlNet::not` meets its contract. Assumes nothing.
-use borrow.Author.Rules.{rules}
 use Rattle.value.specs.Value.{not_control}
 use Rattle.std.proofs.lemmas.Grind.{common_steps}
 use native.Mathlib.Omega.{arith}

@@ -1,5 +1,4 @@
 -- `value::Net::as_cell_index` meets its contract. Assumes nothing.
-use borrow.Author.Rules.{rules}
 use borrow.Author.Tests.{le-leb, lt-leb}
 use Rattle.value.specs.Value.{driver}
 use Rattle.value.proofs.Laws.{small-defined}
