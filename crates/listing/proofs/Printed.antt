@@ -5,7 +5,6 @@ use Prim.Native.Nat.{ℕ, ◌+◌, ◌≤◌}
 use native.Mathlib.Omega.{arith}
 use lib.ListN.{length, take, drop, length-append}
 use lib.Seq.{sets-eq, take_at, length-take-le}
-use Rattle.io.specs.Counts.{IsPrefixLen}
 use Rattle.refusals.specs.declared.Refusal.{Refusal}
 use Rattle.refusals.specs.declared.Verdict.{Verdict}
 use Rattle.refusals.specs.declared.Verdict.TheVariants.{Pass, Refused}
@@ -16,7 +15,7 @@ use Rattle.calls.specs.Answers.{written_by}
 use Rattle.calls.specs.Calls.{put, reply_after, rewrite_verdict, rewrite_answer, rewrite_bytes, rewrite_reply}
 use Rattle.lines.specs.Lines.{lines_of, refusal_line}
 use Rattle.text.specs.Text.{Puts}
-use Rattle.listing.specs.Printed.{printed_by, printed}
+use Rattle.listing.specs.Printed.{IsPrefixLen, printed_by, printed}
 
 -- as many elements as are asked for, where there are so many
 pub counted : (n : ℕ) (l : List ℕ) → n ≤ length l → n ≡ length (take n l)

@@ -2,14 +2,16 @@
 #![tactic(auto)]
 
 ghost use Rattle.std.specs.Prelude.{◌≡◌, ◌≤◌, length, take};
-ghost use Rattle.io.specs.Counts.{IsPrefixLen};
 ghost use Rattle.lines.specs.Lines.{lines_of};
 ghost use Rattle.text.specs.Text.{Puts};
-ghost use Rattle.listing.specs.Printed.{printed};
+ghost use Rattle.listing.specs.Printed.{IsPrefixLen, printed};
 ghost use Rattle.listing.specs.Taken.{Taken};
 
 use calls::Written;
 use reader::Reader;
+use std::io;
+use std::io::{Read, Write};
+use thiserror::Error;
 
 // How much of the input is read, a record more than a ticket may have. What follows is left alone.
 const MOST_READ: usize = 8208;
@@ -49,46 +51,46 @@ fn tell(ticket: &[u8], work: &mut [u32], reply: &mut [u8], text: &mut [u8]) -> u
 }
 
 // The input ended, or the buffer is full, after so many bytes; or a read failed.
-#[derive(Drop)]
+#[derive(Clone, Copy)]
 enum Input {
     Ended(usize),
-    Failed,
+    Failed(io::Error),
 }
 
-// Reads into a buffer. `io::read_full` would answer a failed read like the end of the input.
-fn read(fd: i32, buffer: &mut [u8]) -> Input
+// Why a ticket was not listed.
+#[derive(Clone, Copy, Debug, Error)]
+pub enum Failure {
+    #[error("the ticket cannot be read: {0}")]
+    Unread(io::Error),
+    #[error("the list cannot be written: {0}")]
+    Unwritten(io::Error),
+}
+
+// Reads into a buffer, and not past it.
+fn read<R: Read>(from: &mut R, buffer: &mut [u8]) -> Input
     ensures { Taken result buffer.new }
 {
     let mut done: usize = 0;
     while done < buffer.len() {
-        let got = libc::read(fd, &mut buffer[done..]);
-        if got < 0 {
-            return Input::Failed;
+        match from.read(&mut buffer[done..]) {
+            Ok(0) => return Input::Ended(done),
+            Ok(count) => done += count,
+            Err(e) => return Input::Failed(e),
         }
-        let count = io::count(got, &buffer[done..]);
-        if count == 0 {
-            return Input::Ended(done);
-        }
-        done += count;
     }
     Input::Ended(done)
 }
 
-// Lists the ticket that is read from one descriptor on another. Where a read or a write fails it says so on standard error
-// and answers false; of a ticket that was not read to its end nothing is written.
-pub fn print(from: i32, to: i32) -> bool {
+// Lists the ticket that is read from one stream on another. Of a ticket that was not read to its end nothing is written.
+pub fn print<R: Read, W: Write>(from: &mut R, to: &mut W) -> Result<(), Failure> {
     let mut ticket = [0; MOST_READ];
-    let Input::Ended(n) = read(from, &mut ticket) else {
-        os::fail(b"the ticket cannot be read");
-        return false;
+    let n = match read(from, &mut ticket) {
+        Input::Ended(n) => n,
+        Input::Failed(e) => return Err(Failure::Unread(e)),
     };
     let mut work = [0; WORK];
     let mut reply = [0; REPLY];
     let mut text = [0; TEXT];
     let m = tell(&ticket[..n], &mut work, &mut reply, &mut text);
-    let is_written = io::write_all(to, &text[..m]);
-    if !is_written {
-        os::fail(b"the list cannot be written");
-    }
-    is_written
+    to.write_all(&text[..m]).map_err(Failure::Unwritten)
 }
