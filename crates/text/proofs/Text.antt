@@ -6,7 +6,7 @@ use native.Mathlib.Omega.{arith}
 use native.Mathlib.Numerals.{add-one}
 use lib.ListN.{length, get_or, set, take, drop, length-append, length-set}
 use borrow.Author.Tests.{eq-eqb, ne_eqb}
-use lib.Seq.{sets, sets-eq, length-sets, take-suc, take_all, length-take-le}
+use lib.Seq.{sets, sets-eq, length-sets, take-suc, take_all}
 use Rattle.cell.proofs.Laws.{sets-append}
 use Rattle.cell.specs.declared.Record.{Record}
 use Rattle.refusals.specs.declared.Refusal.{Refusal}
