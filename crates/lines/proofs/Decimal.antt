@@ -1,12 +1,9 @@
--- Laws of decimal digits: they read back as the number, and they are what `io::decimal` writes. Assumes nothing.
-use mathlib.Core.Path.{◌≡◌, refl, sym, ap, ap₂, ◌∙◌, subst}
-use mathlib.Core.List.{List, [], ◌∷◌, ◌++◌}
-use Prim.Native.Nat.{ℕ, zero, suc, ◌+◌, ◌*◌, ◌-◌, ◌/◌, ◌%◌, ◌^◌, ◌<◌, ◌≤◌}
-use native.Mathlib.Omega.{arith}
+-- Laws of decimal digits: they read back as the number, and they are what `{}` writes. Assumes nothing.
+use Rattle.std.proofs.Common.{◌≡◌, refl, sym, ap, ◌∙◌, subst, List, [], ◌∷◌, ◌++◌, ℕ, zero, suc, ◌+◌, ◌*◌, ◌/◌, ◌%◌, ◌-◌, ◌^◌, ◌<◌, ◌≤◌, length, arith}
 use native.Mathlib.Decide.{dec_lt}
-use native.Mathlib.Nat.{pow-suc, pow-le-pow_right, one-le-pow, zero-lt-suc}
 use borrow.Author.Tests.{lt-ltb, le-ltb}
-use Rattle.io.specs.Digits.{hex_digit_ascii, last_digits, IsDigitCount}
+use Rattle.std.specs.Fmt.{decimal as displayed}
+use Rattle.std.proofs.lemmas.Fmt.{AppendsLastDigit, decimal_from_appends, length-decimal-le, length-decimal-le_succ}
 use Rattle.lines.specs.Decimal.{digit, digits_in, decimal, read_from}
 
 -- ---- one digit more
@@ -66,32 +63,14 @@ read-in (suc k) n h = elim (dec_lt n 10) [
 pub reads-back : (n : ℕ) → read_from 0 (decimal n) ≡ n
 reads-back n = read-in (suc n) n (omega arith)
 
--- ---- what `io::decimal` writes: the fewest digits, in its own definition
-glyph-is : (d : ℕ) → d < 10 → hex_digit_ascii d ≡ digit d
-glyph-is d h = rw (lt-ltb d 10 h)
+-- ---- they are what `{}` writes of a number, in std's definition
+appends : AppendsLastDigit digits_in
+appends = record { one = digits-one; more = digits_more }
 
-tenth-of : (p n : ℕ) → p * 10 ≤ n → p ≤ n / 10
-tenth-of p n h = omega arith
-
-pub fewest-are : (k n : ℕ) → IsDigitCount 10 1 n k → last_digits 10 k n ≡ decimal n
-fewest-are zero n f = absurd (omega (arith, f.0))
-fewest-are (suc zero) n f =
-    let h : n < 10 = omega (arith, f.1) in
-    let e : n % 10 ≡ n = omega arith in
-    ap (λ (d : ℕ). hex_digit_ascii d ∷ []) e ∙ ap (λ (d : ℕ). d ∷ []) (glyph-is n h) ∙ sym (decimal-one n h)
-fewest-are (suc (suc k)) n f =
-    let low : 10 ^ (suc k) ≤ n = subst (λ (j : ℕ). 10 ^ j ≤ n) (omega arith) (f.2 (omega arith)) in
-    let ten : 10 ≤ n = omega (arith, pow-suc 10 k, one-le-pow k 10 (zero-lt-suc 9)) in
-    let tenth : IsDigitCount 10 1 (n / 10) (suc k) = (omega arith, omega (arith, pow-suc 10 (suc k), f.1), λ h. subst (λ (j : ℕ). 10 ^ j ≤ n / 10) (omega arith) (tenth-of (10 ^ k) n (omega (arith, pow-suc 10 k)))) in
-    ap₂ (λ (ds : List ℕ) (d : ℕ). ds ++ (d ∷ [])) (fewest-are (suc k) (n / 10) tenth) (glyph-is (n % 10) (omega arith)) ∙ sym (decimal-more n ten)
+pub as-displayed : (n : ℕ) → n < 2 ^ 64 → displayed n ≡ decimal n
+unfolding decimal
+as-displayed n h = sym (decimal_from_appends digits_in appends (n + 1) n h (length-decimal-le_succ n h))
 
 -- a u32 has at most ten digits
-pub ten-digits : (k n : ℕ) → n < 2 ^ 32 → IsDigitCount 10 1 n k → k ≤ 10
-ten-digits k n h f = elim (dec_lt 10 k) [
-  | yes l ↦
-      let low : 10 ^ (k - 1) ≤ n = f.2 (omega arith) in
-      let more : 10 ≤ k - 1 = omega arith in
-      let far : 10 ^ 10 ≤ 10 ^ (k - 1) = pow-le-pow_right (zero-lt-suc 9) more in
-      absurd (omega arith)
-  | no l ↦ omega arith
-]
+pub ten-digits : (n : ℕ) → n < 2 ^ 32 → length (decimal n) ≤ 10
+ten-digits n h = subst (λ (ds : List ℕ). length ds ≤ 10) (as-displayed n (omega arith)) (length-decimal-le 10 n (omega arith) (omega arith) (omega arith))

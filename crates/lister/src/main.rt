@@ -1,6 +1,11 @@
 // The lister: rewrites the ticket on standard input and prints a line for each record of the result.
 #![tactic(auto)]
 
-fn main() {
-    listing::print(libc::STDIN_FILENO, libc::STDOUT_FILENO);
+use std::io;
+
+fn main(rt: HostRuntime) -> io::Result<()> {
+    match listing::print(&mut rt.stdin(), &mut rt.stdout()) {
+        Ok(()) => Ok(()),
+        Err(failure) => eprintln!(rt; "{failure}"),
+    }
 }

@@ -1,4 +1,3 @@
-pub mod Again
 pub mod Listing
 pub mod Printed
 pub mod Taken

@@ -1,11 +1,7 @@
 -- What is printed for each answer of rewriting. Assumes nothing.
-use mathlib.Core.Path.{◌≡◌, refl, sym, ap, ◌∙◌}
-use mathlib.Core.List.{List, ◌++◌}
-use Prim.Native.Nat.{ℕ, ◌+◌, ◌≤◌}
-use native.Mathlib.Omega.{arith}
-use lib.ListN.{length, take, drop, length-append}
-use lib.Seq.{sets-eq, take_at, length-take-le}
-use Rattle.io.specs.Counts.{IsPrefixLen}
+use Rattle.std.proofs.Common.{◌≡◌, refl, sym, ap, ◌∙◌, subst, List, ◌++◌, ℕ, ◌+◌, ◌≤◌, Option, None, Some, IfSome, Result, Ok, Err, OnOk, is_ok, length, take, drop, arith, length-append, take_at, length-take-le}
+use lib.Seq.{sets-eq}
+use Rattle.std.specs.Io.KnownBytes.{Appends}
 use Rattle.refusals.specs.declared.Refusal.{Refusal}
 use Rattle.refusals.specs.declared.Verdict.{Verdict}
 use Rattle.refusals.specs.declared.Verdict.TheVariants.{Pass, Refused}
@@ -21,9 +17,6 @@ use Rattle.listing.specs.Printed.{printed_by, printed}
 -- as many elements as are asked for, where there are so many
 pub counted : (n : ℕ) (l : List ℕ) → n ≤ length l → n ≡ length (take n l)
 counted n l h = sym (length-take-le n l h)
-
-pub counts : (n : ℕ) (l : List ℕ) → n ≤ length l → IsPrefixLen n l
-counts n l h = (h, counted n l h)
 
 -- what is put at the start of a text is the text up to the next place
 shown : (most n : ℕ) (t u xs : List ℕ) → Puts most t u 0 xs n → most ≤ length t → take n u ≡ xs
@@ -63,9 +56,6 @@ module _ (words : ℕ) (t reply : List ℕ) (w : Written) (is : w ≡ rewrite_an
     result : take n after ≡ bytes
     result = ap (take n) delivered ∙ take_at bytes (drop (length bytes) reply) n (sym passes.1)
 
-    pub accepted-short : length after ≡ length reply → length reply ≤ 16384 → length (take n after) ≤ 16384
-    accepted-short l h = omega (arith, accepted-inside, counted n after accepted-inside)
-
     pub accepted-printed : (m : ℕ) (text text' : List ℕ) → 81920 ≤ length text → Puts 81920 text text' 0 (lines_of (take n after)) m → take m text' ≡ printed words t reply
     unfolding printed
     accepted-printed m text text' long p =
@@ -76,3 +66,19 @@ module _ (words : ℕ) (t reply : List ℕ) (w : Written) (is : w ≡ rewrite_an
   unfolding rewrite_answer printed
   refused-printed x e m text text' long p =
       shown 80 m text text' (refusal_line x) p (omega arith) ∙ sym (ap (λ (v : Verdict). printed_by v bytes) (refused verdict (length bytes) x (sym e ∙ is)))
+
+-- ---- the text, behind what a writer held
+pub on_ok : {T E P : Type 0} (r : Result T E) → P → OnOk r P
+on_ok (Ok x) p = p
+on_ok (Err e) p = tt
+
+pub on_ok-same : {T E S F P Q : Type 0} (r : Result T E) (s : Result S F) → is_ok s ≡ is_ok r → (P → Q) → OnOk r P → OnOk s Q
+on_ok-same (Ok x) (Ok y) e f p = f p
+on_ok-same (Ok x) (Err y) e f p = tt
+on_ok-same (Err x) (Ok y) e f p = cc
+on_ok-same (Err x) (Err y) e f p = tt
+
+pub lists-printed : (known held holds : Option (List ℕ)) (words most : ℕ) (ticket reply out : List ℕ)
+    → IfSome known (λ xs. ticket ≡ take most xs) → out ≡ printed words ticket reply → Appends held holds out → IfSome known (λ xs. Appends held holds (printed words (take most xs) reply))
+lists-printed None held holds words most ticket reply out t e p = tt
+lists-printed (Some xs) held holds words most ticket reply out t e p = subst (Appends held holds) (e ∙ ap (λ (l : List ℕ). printed words l reply) t) p

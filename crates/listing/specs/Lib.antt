@@ -1,2 +1,3 @@
+pub mod Failures
 pub mod Printed
 pub mod Taken

@@ -1,10 +1,14 @@
 -- What the lister prints for a ticket (paper, "Tickets to try"). Assumes nothing: these are definitions.
-use Rattle.std.specs.Prelude.{List, ℕ}
+use Rattle.std.specs.Prelude.{◌≡◌, ◌≤◌, List, ℕ, length, take}
 use Rattle.refusals.specs.declared.Verdict.{Verdict}
 use Rattle.refusals.specs.declared.Verdict.TheVariants.{Pass, Refused}
 use Rattle.design.specs.Queue.{find_new_cell}
 use Rattle.calls.specs.Calls.{rewrite_verdict, rewrite_bytes}
 use Rattle.lines.specs.Lines.{lines_of, refusal_line}
+
+-- the first n elements are there, and are n
+abbrev pub IsPrefixLen : ℕ → List ℕ → Type 0
+IsPrefixLen n xs = (n ≤ length xs) × (n ≡ length (take n xs))
 
 -- what is printed by a verdict and the bytes of an accepted ticket's result
 abbrev pub printed_by : Verdict → List ℕ → List ℕ

@@ -1,15 +1,19 @@
 // What the lister does: reads a ticket, rewrites it and prints a line for each record of the result.
 #![tactic(auto)]
 
-ghost use Rattle.std.specs.Prelude.{◌≡◌, ◌≤◌, length, take};
-ghost use Rattle.io.specs.Counts.{IsPrefixLen};
+ghost use Rattle.std.specs.Prelude.{◌≡◌, ◌≤◌, length, take, replicate, OnOk, IfSome};
+ghost use Rattle.std.specs.Io.KnownBytes.{Appends};
 ghost use Rattle.lines.specs.Lines.{lines_of};
 ghost use Rattle.text.specs.Text.{Puts};
-ghost use Rattle.listing.specs.Printed.{printed};
-ghost use Rattle.listing.specs.Taken.{Taken};
+ghost use Rattle.listing.specs.Printed.{IsPrefixLen, printed};
+ghost use Rattle.listing.specs.Taken.{Taken, TakenFrom, TakesMost};
+ghost use Rattle.listing.specs.Failures.{OnUnread};
 
 use calls::Written;
 use reader::Reader;
+use std::io;
+use std::io::{Read, Write};
+use thiserror::Error;
 
 // How much of the input is read, a record more than a ticket may have. What follows is left alone.
 const MOST_READ: usize = 8208;
@@ -49,46 +53,71 @@ fn tell(ticket: &[u8], work: &mut [u32], reply: &mut [u8], text: &mut [u8]) -> u
 }
 
 // The input ended, or the buffer is full, after so many bytes; or a read failed.
-#[derive(Drop)]
+#[derive(Clone, Copy)]
 enum Input {
     Ended(usize),
-    Failed,
+    Failed(io::Error),
 }
 
-// Reads into a buffer. `io::read_full` would answer a failed read like the end of the input.
-fn read(fd: i32, buffer: &mut [u8]) -> Input
-    ensures { Taken result buffer.new }
+// Why a ticket was not listed.
+#[derive(Clone, Copy, Debug, Error)]
+pub enum Failure {
+    #[error("the ticket cannot be read: {0}")]
+    Unread(io::Error),
+    #[error("the list cannot be written: {0}")]
+    Unwritten(io::Error),
+}
+
+// Reads into a buffer, and not past it.
+fn read<R: Read>(from: &mut R, buffer: &mut [u8]) -> Input
+    ensures inside { Taken result buffer.new }
+    ensures bytes { TakenFrom (R.remaining from.old) (R.remaining from.new) result buffer.new }
 {
     let mut done: usize = 0;
     while done < buffer.len() {
-        let got = libc::read(fd, &mut buffer[done..]);
-        if got < 0 {
-            return Input::Failed;
+        match from.read(&mut buffer[done..]) {
+            Ok(0) => return Input::Ended(done),
+            Ok(count) => done += count,
+            Err(e) => return Input::Failed(e),
         }
-        let count = io::count(got, &buffer[done..]);
-        if count == 0 {
-            return Input::Ended(done);
-        }
-        done += count;
     }
     Input::Ended(done)
 }
 
-// Lists the ticket that is read from one descriptor on another. Where a read or a write fails it says so on standard error
-// and answers false; of a ticket that was not read to its end nothing is written.
-pub fn print(from: i32, to: i32) -> bool {
-    let mut ticket = [0; MOST_READ];
-    let Input::Ended(n) = read(from, &mut ticket) else {
-        os::fail(b"the ticket cannot be read");
-        return false;
+// Lists a ticket, with a buffer for its bytes, the words and the bytes that rewriting works in, and room for the lines.
+fn print_with<R: Read, W: Write>(
+    from: &mut R,
+    to: &mut W,
+    ticket: &mut [u8],
+    work: &mut [u32],
+    reply: &mut [u8],
+    text: &mut [u8],
+) -> Result<(), Failure>
+    requires reply_len_bound { length reply.old ≤ 16384 }
+    requires in_bounds { 81920 ≤ length text.old }
+    ensures taken { OnOk result (TakesMost (length ticket.old) (R.remaining from.old) (R.remaining from.new)) }
+    ensures lists { OnOk result (IfSome (R.remaining from.old) (λ xs.
+        Appends (W.contents to.old) (W.contents to.new) (printed (length work.old) (take (length ticket.old) xs) reply.old))) }
+    ensures unread { OnUnread result (to.new ≡ to.old) }
+{
+    let n = match read(from, ticket) {
+        Input::Ended(n) => n,
+        Input::Failed(e) => return Err(Failure::Unread(e)),
     };
+    let m = tell(&ticket[..n], work, reply, text);
+    to.write_all(&text[..m]).map_err(Failure::Unwritten)
+}
+
+// Lists the ticket that is read from one stream on another. Of a ticket that was not read to its end nothing is written.
+pub fn print<R: Read, W: Write>(from: &mut R, to: &mut W) -> Result<(), Failure>
+    ensures taken { OnOk result (TakesMost MOST_READ (R.remaining from.old) (R.remaining from.new)) }
+    ensures lists { OnOk result (IfSome (R.remaining from.old) (λ xs.
+        Appends (W.contents to.old) (W.contents to.new) (printed WORK (take MOST_READ xs) (replicate REPLY 0)))) }
+    ensures unread { OnUnread result (to.new ≡ to.old) }
+{
+    let mut ticket = [0; MOST_READ];
     let mut work = [0; WORK];
     let mut reply = [0; REPLY];
     let mut text = [0; TEXT];
-    let m = tell(&ticket[..n], &mut work, &mut reply, &mut text);
-    let is_written = io::write_all(to, &text[..m]);
-    if !is_written {
-        os::fail(b"the list cannot be written");
-    }
-    is_written
+    print_with(from, to, &mut ticket, &mut work, &mut reply, &mut text)
 }

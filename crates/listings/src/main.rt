@@ -2,43 +2,57 @@
 // leaves in the file; then two calls that fail, one where nothing can be read and one where nothing can be written.
 #![tactic(auto)]
 
-use libc::STDOUT_FILENO;
+use std::io::{Error, Read, Write};
+use std::rt::Files;
+use std::{fs, io};
 
-fn tell_left(fd: i32) {
-    let mut rest = io::buffer();
-    let n = io::read_full(fd, &mut rest);
-    io::write_all(STDOUT_FILENO, b"left ");
-    io::print_decimal(STDOUT_FILENO, n as u64);
-    io::write_all(STDOUT_FILENO, b"\n");
+// Takes no byte, as a descriptor that is not open.
+#[derive(Clone, Copy)]
+struct Closed;
+
+impl Write for Closed {
+    fn write(&mut self, _buf: &[u8]) -> io::Result<usize> {
+        // EBADF.
+        Err(Error::from_raw_os_error(9))
+    }
+
+    fn flush(&mut self) -> io::Result<()> {
+        Ok(())
+    }
 }
 
-fn list(name: &[u8], to: i32) {
-    io::write_all(STDOUT_FILENO, name);
-    io::write_all(STDOUT_FILENO, b"\n");
-    let fd = os::open_read(name);
-    if fd < 0 {
-        os::fail(name);
-        return;
-    }
-    if listing::print(fd, to) {
-        tell_left(fd);
-    } else {
-        io::write_all(STDOUT_FILENO, b"failed\n");
-    }
-    libc::close(fd);
+fn tell_left(rt: &impl Print, file: &mut impl Read) -> io::Result<()> {
+    let n = io::copy(file, &mut io::sink())?;
+    println!(rt; "left {n}")
 }
 
-fn main() {
-    list(b"0", STDOUT_FILENO);
-    list(b"16", STDOUT_FILENO);
-    list(b"8192", STDOUT_FILENO);
-    list(b"8207", STDOUT_FILENO);
-    list(b"8208", STDOUT_FILENO);
-    list(b"8209", STDOUT_FILENO);
-    list(b"undriven", STDOUT_FILENO);
-    list(b"loop", STDOUT_FILENO);
-    list(b"exhausted", STDOUT_FILENO);
+fn list(rt: &(impl Files + Print + Eprint), name: &str, to: &mut impl Write) -> io::Result<()> {
+    println!(rt; "{name}")?;
+    let mut file = match fs::open(rt, name) {
+        Ok(file) => file,
+        Err(e) => return eprintln!(rt; "{name}: {e}"),
+    };
+    match listing::print(&mut file, to) {
+        Ok(()) => tell_left(rt, &mut file),
+        Err(failure) => {
+            eprintln!(rt; "{failure}")?;
+            println!(rt; "failed")
+        }
+    }
+}
+
+fn main(rt: HostRuntime) -> io::Result<()> {
+    let mut out = rt.stdout();
+    list(&rt, "0", &mut out)?;
+    list(&rt, "16", &mut out)?;
+    list(&rt, "8192", &mut out)?;
+    list(&rt, "8207", &mut out)?;
+    list(&rt, "8208", &mut out)?;
+    list(&rt, "8209", &mut out)?;
+    list(&rt, "undriven", &mut out)?;
+    list(&rt, "loop", &mut out)?;
+    list(&rt, "exhausted", &mut out)?;
     // A directory.
-    list(b".", STDOUT_FILENO);
-    list(b"16", -1);
+    list(&rt, ".", &mut out)?;
+    list(&rt, "16", &mut Closed)
 }

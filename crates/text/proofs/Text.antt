@@ -1,23 +1,24 @@
--- Laws of text that is put together: one piece behind the other, byte by byte, and number by number. Assumes nothing.
+-- Laws of text that is put together: one piece behind the other, and number by number. Assumes nothing.
 use mathlib.Core.Path.{◌≡◌, refl, sym, ap, ◌∙◌, subst}
 use mathlib.Core.List.{List, [], ◌∷◌, ◌++◌, append_assoc, append-nil}
 use Prim.Native.Nat.{ℕ, ◌+◌, ◌*◌, ◌^◌, ◌<◌, ◌≤◌}
 use native.Mathlib.Omega.{arith}
 use native.Mathlib.Numerals.{add-one}
-use lib.ListN.{length, get_or, set, take, length-append, length-set}
+use lib.ListN.{length, get_or, set, take, drop, length-append, length-set}
 use borrow.Author.Tests.{eq-eqb, ne_eqb}
-use lib.Seq.{sets, length-sets, take-suc, take_all, length-take-le}
+use lib.Seq.{sets, sets-eq, length-sets, take-suc, take_all}
 use Rattle.cell.proofs.Laws.{sets-append}
 use Rattle.cell.specs.declared.Record.{Record}
 use Rattle.refusals.specs.declared.Refusal.{Refusal}
 use Rattle.refusals.specs.declared.Figures.{Figures}
 use Rattle.refusals.specs.Refusals.{figures}
-use Rattle.io.specs.Counts.{IsPrefixLen}
-use Rattle.io.specs.Digits.{last_digits, IsDigitCount}
+use borrow.Rule.Slice.PartMut.{put_mid}
+use Rattle.std.specs.Fmt.{decimal as displayed}
+use Rattle.std.proofs.lemmas.Slice.{put_mid-paste}
 use Rattle.lines.specs.Decimal.{decimal}
 use Rattle.lines.specs.Lines.{spaced, to_end, record_line, refused_word, refusal_numbers, refusal_line}
 use Rattle.text.specs.Text.{Puts}
-use Rattle.lines.proofs.Decimal.{fewest-are, ten-digits}
+use Rattle.lines.proofs.Decimal.{as-displayed, ten-digits}
 
 -- one piece behind the other
 pub puts_then : (k l most : ℕ) (t u v : List ℕ) (at m n : ℕ) (xs ys : List ℕ) → k + l ≤ most → Puts k t u at xs m → Puts l u v m ys n → Puts most t v at (xs ++ ys) n
@@ -30,49 +31,23 @@ puts_then k l most t u v at m n xs ys h p q = record {
 pub puts-length : (k : ℕ) (t u : List ℕ) (at n : ℕ) (xs : List ℕ) → Puts k t u at xs n → length u ≡ length t
 puts-length k t u at n xs p = ap length p.stored ∙ length-sets t at xs
 
--- ---- byte by byte: what a copy has put before its byte i
-pub record Copying (bytes t u : List ℕ) (at i : ℕ) : Type 0 where
-  pub fits : at + length bytes ≤ length u
-  pub upto : i ≤ length bytes
-  pub stored : u ≡ sets t at (take i bytes)
+-- ---- bytes copied to their place
+pub copied : (t u bytes : List ℕ) (at k : ℕ) → u ≡ bytes → length bytes ≡ k → at + length bytes ≤ length t → Puts (length bytes) t (put_mid at k t u) at bytes (at + length bytes)
+copied t u bytes at k e h room = record {
+  stored =
+      put_mid-paste at k t u bytes (length bytes) e h refl
+      ∙ ap (λ (s : List ℕ). take at t ++ s ++ drop (at + length bytes) t) (take_all (length bytes) bytes (omega arith))
+      ∙ sym (sets-eq bytes t at room);
+  place = refl;
+  within = omega arith;
+}
 
-module _ (bytes t : List ℕ) (at : ℕ) where
-  pub copying-none : at + length bytes ≤ length t → Copying bytes t t at 0
-  copying-none h = record { fits = h; upto = omega arith; stored = refl }
-
-  pub copying-length : (u : List ℕ) (i : ℕ) → Copying bytes t u at i → length u ≡ length t
-  copying-length u i c = ap length c.stored ∙ length-sets t at (take i bytes)
-
-  pub copying-more : (u : List ℕ) (i : ℕ) → Copying bytes t u at i → i < length bytes → Copying bytes t (set u (at + i) (get_or bytes i 0)) at (i + 1)
-  copying-more u i c h = record {
-    fits = omega (arith, c.fits, length-set u (at + i) (get_or bytes i 0));
-    upto = omega arith;
-    stored =
-        ap (λ (l : List ℕ). set l (at + i) (get_or bytes i 0)) c.stored
-        ∙ ap (λ (k : ℕ). sets (sets t at (take i bytes)) (at + k) (get_or bytes i 0 ∷ [])) (sym (length-take-le i bytes c.upto))
-        ∙ sym (sets-append t at (take i bytes) (get_or bytes i 0 ∷ []))
-        ∙ ap (sets t at) (sym (take-suc bytes i 0 h))
-        ∙ ap (λ (k : ℕ). sets t at (take k bytes)) (sym (add-one i));
-  }
-
-  pub copying-all : (u : List ℕ) (i : ℕ) → Copying bytes t u at i → length bytes ≤ i → Puts (length bytes) t u at bytes (at + i)
-  copying-all u i c h = record {
-    stored = c.stored ∙ ap (sets t at) (take_all i bytes h);
-    place = omega (arith, c.upto);
-    within = omega arith;
-  }
-
--- ---- a number: the digits that `io::decimal` left at the start of d
-module _ (k x : ℕ) (d : List ℕ) (small : x < 2 ^ 32) (few : IsDigitCount 10 1 x k) (counted : IsPrefixLen k d) where
-  pub number-room : (at l : ℕ) → at + 10 ≤ l → at + length (take k d) ≤ l
-  number-room at l h = omega (arith, ten-digits k x small few, counted.1)
-
-  pub number_put : (t u : List ℕ) (at n : ℕ) → take k d ≡ last_digits 10 k x → Puts (length (take k d)) t u at (take k d) n → Puts 10 t u at (decimal x) n
-  number_put t u at n e p = subst (λ (ds : List ℕ). Puts 10 t u at ds n) (e ∙ fewest-are k x few) record {
-    stored = p.stored;
-    place = p.place;
-    within = omega (arith, ten-digits k x small few, counted.1);
-  }
+-- ---- a number: its digits, which are those that `{}` writes, are ten at most
+pub number_put : (t u ds : List ℕ) (at n x : ℕ) → x < 2 ^ 32 → ds ≡ displayed x → Puts (length ds) t u at ds n → Puts 10 t u at (decimal x) n
+number_put t u ds at n x small e p =
+    let is : ds ≡ decimal x = e ∙ as-displayed x (omega arith) in
+    subst (λ (s : List ℕ). Puts 10 t u at s n) is
+    record { stored = p.stored; place = p.place; within = omega (arith, ap length is, ten-digits x small) }
 
 -- ---- number by number: what stands in the text before number i
 spaced-last : (ns : List ℕ) (x : ℕ) → spaced (ns ++ (x ∷ [])) ≡ spaced ns ++ (32 ∷ decimal x)

@@ -14,12 +14,9 @@ fn put_all(text: &mut [u8], at: usize, bytes: &[u8]) -> usize
     requires { at + length bytes.now ≤ length text.old }
     ensures { Puts (length bytes.now) text.old text.new at bytes.now result }
 {
-    let mut i: usize = 0;
-    while i < bytes.len() {
-        text[at + i] = bytes[i];
-        i += 1;
-    }
-    at + i
+    let end = at + bytes.len();
+    text[at..end].copy_from_slice(bytes);
+    end
 }
 
 // A number in decimal, ten digits at most.
@@ -27,9 +24,8 @@ fn put_number(text: &mut [u8], at: usize, x: u32) -> usize
     requires { at + 10 ≤ length text.old }
     ensures { Puts 10 text.old text.new at (decimal x) result }
 {
-    let mut digits = [0; 20];
-    let k = io::decimal(x as u64, &mut digits);
-    put_all(text, at, &digits[..k])
+    let mut digits = itoa::Buffer::new();
+    put_all(text, at, digits.format(x).as_bytes())
 }
 
 // Numbers, each behind a space, and the end of the line.
@@ -38,11 +34,9 @@ fn put_fields(text: &mut [u8], at: usize, numbers: &[u32]) -> usize
     ensures { Puts (11 * length numbers.now + 1) text.old text.new at (to_end numbers.now) result }
 {
     let mut n = at;
-    let mut i: usize = 0;
-    while i < numbers.len() {
+    for x in numbers {
         text[n] = b' ';
-        n = put_number(text, n + 1, numbers[i]);
-        i += 1;
+        n = put_number(text, n + 1, *x);
     }
     text[n] = b'\n';
     n + 1
