@@ -1,5 +1,6 @@
 // The list's files, read in step: for each ticket an entry of each file.
-ghost use Rattle.std.specs.Prelude.{◌≤◌, length, IfOk};
+ghost use Rattle.std.specs.Prelude.{◌<◌, ◌≤◌, length, take, IfOk};
+ghost use Rattle.std.specs.Io.KnownBytes.{Consumes, IsAtEnd};
 
 use crate::entry;
 use std::io::{ErrorKind, Read};
@@ -42,8 +43,10 @@ pub fn close<F: Drop>(files: Files<F>) {
 
 // Reads until the buffer is full or the file ends, and answers how many bytes it put at the
 // buffer's start.
-pub fn read_full(file: &mut impl Read, buffer: &mut [u8]) -> io::Result<usize>
-    ensures { IfOk result (λ n. n ≤ length buffer.new) }
+pub fn read_full<R: Read>(file: &mut R, buffer: &mut [u8]) -> io::Result<usize>
+    ensures bound { IfOk result (λ n. n ≤ length buffer.new) }
+    ensures bytes { IfOk result (λ n. Consumes (R.remaining file.old) (R.remaining file.new) (take n buffer.new)) }
+    ensures end { IfOk result (λ n. n < length buffer.new → IsAtEnd (R.remaining file.new)) }
 {
     let mut done = 0;
     while done < buffer.len() {
