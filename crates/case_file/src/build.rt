@@ -32,21 +32,17 @@ fn put_record(ticket: &mut [u8], at: usize, fields: &[u32; 13]) -> usize {
 }
 
 fn step(fields: &mut [u32; 13]) {
-    let mut i = 0;
-    while i < 6 {
-        fields[i] = std::num::wrapping_add_u32(fields[i], fields[i + 7]);
-        i += 1;
+    for i in 0..6 {
+        fields[i] = fields[i].wrapping_add(fields[i + 7]);
     }
 }
 
 // Puts so many records, each field after the first record's raised by the steps, fields 7 to 12.
 pub fn put_records(ticket: &mut [u8], from: usize, fields: &mut [u32; 13], times: u32) -> usize {
     let mut at = from;
-    let mut n = 0;
-    while n < times {
+    for _ in 0..times {
         at = put_record(ticket, at, fields);
         step(fields);
-        n += 1;
     }
     at
 }

@@ -7,7 +7,7 @@ mod text;
 use outcome::Figures;
 pub use text::{byte, is_letter, next_line, skip_word};
 
-#[derive(Drop)]
+#[derive(Clone, Copy)]
 pub struct Case {
     pub lent: u32,
     pub expected: Figures,

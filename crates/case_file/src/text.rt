@@ -15,38 +15,32 @@ pub fn behind(text: &[u8], at: usize) -> usize {
 pub fn next_line(text: &[u8], from: usize) -> usize
     ensures { length text.now - result ≤ length text.now - (from + 1) }
 {
-    let mut at = from;
-    while at < text.len() {
+    for at in from..text.len() {
         if text[at] == b'\n' {
             return at + 1;
         }
-        at += 1;
     }
-    at
+    from.max(text.len())
 }
 
 // The first place that is no blank.
 fn skip_blanks(text: &[u8], from: usize) -> usize {
-    let mut at = from;
-    while at < text.len() {
+    for at in from..text.len() {
         if text[at] != b' ' {
             return at;
         }
-        at += 1;
     }
-    at
+    from.max(text.len())
 }
 
 // The place behind a word.
 pub fn skip_word(text: &[u8], from: usize) -> usize {
-    let mut at = from;
-    while at < text.len() {
+    for at in from..text.len() {
         if text[at] == b' ' || text[at] == b'\n' {
             return at;
         }
-        at += 1;
     }
-    at
+    from.max(text.len())
 }
 
 fn is_digit(x: u8) -> bool {
@@ -64,14 +58,12 @@ pub fn number(text: &[u8], from: usize) -> u32 {
         return u32::MAX;
     }
     let mut value = 0;
-    let mut at = from;
-    while at < text.len() {
+    for at in from..text.len() {
         let x = text[at];
         if !is_digit(x) {
             return value;
         }
         value = with_digit(value, x);
-        at += 1;
     }
     value
 }

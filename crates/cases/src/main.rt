@@ -3,68 +3,82 @@
 #![tactic(auto)]
 
 use outcome::{Outcome, Tally};
+use std::{fs, io};
 
-fn tell_name(text: &[u8], from: usize) {
+fn tell_name(rt: &impl Print, text: &[u8], from: usize) -> io::Result<()> {
     let to = case_file::skip_word(text, from);
     if from <= to && to <= text.len() {
-        io::write_all(1, &text[from..to]);
+        rt.write_all(&text[from..to])?;
     }
+    Ok(())
 }
 
-fn not_understood(text: &[u8], at: usize) -> bool {
-    tell_name(text, at);
-    io::write_all(1, b": not understood\n");
-    true
+fn not_understood(rt: &impl Print, text: &[u8], at: usize) -> io::Result<bool> {
+    tell_name(rt, text, at)?;
+    println!(rt; ": not understood")?;
+    Ok(true)
 }
 
 // Runs the case whose head stands at a place and answers whether it differs.
-fn differs(text: &[u8], at: usize, ticket: &mut [u8], space: &mut [u32], seed: u32) -> bool {
+fn differs(
+    rt: &impl Print,
+    text: &[u8],
+    at: usize,
+    ticket: &mut [u8],
+    space: &mut [u32],
+    seed: u32,
+) -> io::Result<bool> {
     let case = case_file::read(text, at, ticket);
     let n = case.bytes;
     if ticket.len() < n {
-        return not_understood(text, at);
+        return not_understood(rt, text, at);
     }
     if !case.clear {
-        return not_understood(text, at);
+        return not_understood(rt, text, at);
     }
     let expected = case.expected;
     let outcome = trial::check(&ticket[..n], space, case.lent as usize, seed, expected);
     if let Outcome::AsExpected = outcome {
-        return false;
+        return Ok(false);
     }
-    tell_name(text, at);
-    outcome::tell(outcome);
-    true
+    tell_name(rt, text, at)?;
+    outcome::tell(rt, outcome)?;
+    Ok(true)
 }
 
 // Runs a case if its head stands at a place.
-fn tried(text: &[u8], at: usize, ticket: &mut [u8], space: &mut [u32], tally: Tally) -> Tally {
+fn tried(
+    rt: &impl Print,
+    text: &[u8],
+    at: usize,
+    ticket: &mut [u8],
+    space: &mut [u32],
+    tally: Tally,
+) -> io::Result<Tally> {
     if !case_file::is_letter(case_file::byte(text, at)) {
-        return tally;
+        return Ok(tally);
     }
-    tally.and(differs(text, at, ticket, space, tally.tried))
+    Ok(tally.and(differs(rt, text, at, ticket, space, tally.tried)?))
 }
 
-fn run(text: &[u8], ticket: &mut [u8], space: &mut [u32]) -> Tally {
+fn run(rt: &impl Print, text: &[u8], ticket: &mut [u8], space: &mut [u32]) -> io::Result<Tally> {
     let mut tally = Tally::new();
     let mut at = 0;
     while at < text.len() {
-        tally = tried(text, at, ticket, space, tally);
+        tally = tried(rt, text, at, ticket, space, tally)?;
         at = case_file::next_line(text, at);
     }
-    tally
+    Ok(tally)
 }
 
-fn main() {
-    let fd = os::open_read(b"cases");
-    if fd < 0 {
-        os::fail(b"cases");
-        return;
-    }
-    let mut text = io::large_buffer();
-    let n = io::read_full(fd, &mut text);
-    libc::close(fd);
+fn main(rt: HostRuntime) -> io::Result<()> {
+    let mut file = match fs::open(&rt, "cases") {
+        Ok(file) => file,
+        Err(error) => return eprintln!(rt; "cases: {error}"),
+    };
+    let mut text = [0; 65536];
+    let n = oracle_list::read_full(&mut file, &mut text)?;
     let mut ticket = [0; 16384];
     let mut space = [0; 17000];
-    run(&text[..n], &mut ticket, &mut space).tell(b" cases, ");
+    run(&rt, &text[..n], &mut ticket, &mut space)?.tell(&rt, b" cases, ")
 }

@@ -18,11 +18,9 @@ fn byte(x: u32) -> u8 {
 
 pub fn spill(space: &mut [u32], seed: u32) {
     let mut x = first(seed);
-    let mut i = 0;
-    while i < space.len() {
-        space[i] = x;
+    for word in space.iter_mut() {
+        *word = x;
         x = next(x);
-        i += 1;
     }
 }
 
@@ -31,37 +29,31 @@ pub fn spill(space: &mut [u32], seed: u32) {
 pub fn is_left(space: &[u32], lent: usize, seed: u32) -> bool {
     let cleared = if lent < 16384 { 0 } else { 16384 };
     let mut x = first(seed);
-    let mut i = 0;
-    while i < space.len() {
-        if space[i] != (if i < cleared { 0 } else { x }) {
+    for (i, word) in space.iter().enumerate() {
+        if *word != (if i < cleared { 0 } else { x }) {
             return false;
         }
         x = next(x);
-        i += 1;
     }
     true
 }
 
 pub fn spill_bytes(space: &mut [u8], seed: u32) {
     let mut x = first(seed);
-    let mut i = 0;
-    while i < space.len() {
-        space[i] = byte(x);
+    for place in space.iter_mut() {
+        *place = byte(x);
         x = next(x);
-        i += 1;
     }
 }
 
 // Whether the bytes behind the first ones are as they were spilled.
 pub fn is_kept_behind(space: &[u8], written: usize, seed: u32) -> bool {
     let mut x = first(seed);
-    let mut i = 0;
-    while i < space.len() {
-        if written <= i && space[i] != byte(x) {
+    for (i, place) in space.iter().enumerate() {
+        if written <= i && *place != byte(x) {
             return false;
         }
         x = next(x);
-        i += 1;
     }
     true
 }

@@ -2,7 +2,7 @@
 ghost use Rattle.std.specs.Prelude.{◌<◌};
 
 // The lengths of the slices that calls get.
-#[derive(Drop)]
+#[derive(Clone, Copy)]
 pub struct Slices {
     // In words.
     pub work: usize,

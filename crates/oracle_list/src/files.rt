@@ -1,17 +1,21 @@
 // The list's files, read in step: for each ticket an entry of each file.
-use crate::entry;
+ghost use Rattle.std.specs.Prelude.{◌<◌, ◌≤◌, length, take, IfOk};
+ghost use Rattle.std.specs.Io.KnownBytes.{Consumes, IsAtEnd};
 
-// Descriptors.
+use crate::entry;
+use std::io::{ErrorKind, Read};
+use std::{fs, io, rt};
+
 #[derive(Drop)]
-pub struct Files {
-    pub tickets: i32,
-    pub slices: i32,
-    pub stimuli: i32,
+pub struct Files<F> {
+    pub tickets: F,
+    pub slices: F,
+    pub stimuli: F,
     // The answers expected of a call.
-    pub expected: i32,
+    pub expected: F,
 }
 
-#[derive(Drop)]
+#[derive(Clone, Copy)]
 pub enum Next {
     // The number of bytes.
     Read(usize),
@@ -20,58 +24,77 @@ pub enum Next {
     Torn,
 }
 
-pub fn open(expected: &[u8]) -> Files {
-    Files {
-        tickets: os::open_read(b"tickets"),
-        slices: os::open_read(b"slices"),
-        stimuli: os::open_read(b"stimuli"),
-        expected: os::open_read(expected),
-    }
+pub fn open<R: rt::Files>(rt: &R, expected: &[u8]) -> io::Result<Files<R::File>> {
+    let Ok(name) = str::from_utf8(expected) else {
+        return Err(io::Error::new(ErrorKind::InvalidInput, "a file's name is no text"));
+    };
+    Ok(Files {
+        tickets: fs::open(rt, "tickets")?,
+        slices: fs::open(rt, "slices")?,
+        stimuli: fs::open(rt, "stimuli")?,
+        expected: fs::open(rt, name)?,
+    })
 }
 
-pub fn close(files: Files) {
-    libc::close(files.tickets);
-    libc::close(files.slices);
-    libc::close(files.stimuli);
-    libc::close(files.expected);
+// A file is closed where it is dropped.
+pub fn close<F: Drop>(files: Files<F>) {
+    drop(files)
+}
+
+// Reads until the buffer is full or the file ends, and answers how many bytes it put at the
+// buffer's start.
+pub fn read_full<R: Read>(file: &mut R, buffer: &mut [u8]) -> io::Result<usize>
+    ensures bound { IfOk result (λ n. n ≤ length buffer.new) }
+    ensures bytes { IfOk result (λ n. Consumes (R.remaining file.old) (R.remaining file.new) (take n buffer.new)) }
+    ensures end { IfOk result (λ n. n < length buffer.new → IsAtEnd (R.remaining file.new)) }
+{
+    let mut done = 0;
+    while done < buffer.len() {
+        let n = file.read(&mut buffer[done..])?;
+        if n == 0 {
+            break;
+        }
+        done += n;
+    }
+    Ok(done)
 }
 
 // Reads so many bytes to the start of a buffer.
-fn read(fd: i32, buffer: &mut [u8], n: usize) -> Next {
+fn read(file: &mut impl Read, buffer: &mut [u8], n: usize) -> io::Result<Next> {
     if buffer.len() < n {
-        return Next::Torn;
+        return Ok(Next::Torn);
     }
-    if io::read_full(fd, &mut buffer[..n]) < n {
-        return Next::Torn;
+    if read_full(file, &mut buffer[..n])? < n {
+        return Ok(Next::Torn);
     }
-    Next::Read(n)
+    Ok(Next::Read(n))
 }
 
 // Reads the next ticket to the start of a buffer.
-pub fn next_ticket(fd: i32, ticket: &mut [u8]) -> Next {
+pub fn next_ticket(file: &mut impl Read, ticket: &mut [u8]) -> io::Result<Next> {
     let mut x = [0; 4];
-    let got = io::read_full(fd, &mut x);
+    let got = read_full(file, &mut x)?;
     if got == 0 {
-        return Next::End;
+        return Ok(Next::End);
     }
     if got < 4 {
-        return Next::Torn;
+        return Ok(Next::Torn);
     }
     let n = entry::word(entry::half(x[0], x[1]), entry::half(x[2], x[3]));
-    read(fd, ticket, n as usize)
+    read(file, ticket, n as usize)
 }
 
 // Reads the next assignment to the start of a buffer.
-pub fn next_levels(fd: i32, levels: &mut [u8]) -> Next {
+pub fn next_levels(file: &mut impl Read, levels: &mut [u8]) -> io::Result<Next> {
     let mut x = [0; 2];
-    if io::read_full(fd, &mut x) < 2 {
-        return Next::Torn;
+    if read_full(file, &mut x)? < 2 {
+        return Ok(Next::Torn);
     }
-    read(fd, levels, entry::half(x[0], x[1]) as usize)
+    read(file, levels, entry::half(x[0], x[1]) as usize)
 }
 
 // Whether nothing is left to read.
-pub fn is_at_end(fd: i32) -> bool {
+pub fn is_at_end(file: &mut impl Read) -> io::Result<bool> {
     let mut x = [0; 1];
-    io::read_full(fd, &mut x) == 0
+    Ok(read_full(file, &mut x)? == 0)
 }

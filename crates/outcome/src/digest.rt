@@ -1,5 +1,5 @@
 // The two sums by which the fixed list keeps a reply (docs/ORACLE.md).
-#[derive(Drop)]
+#[derive(Clone, Copy)]
 pub struct Sums {
     pub first: u32,
     pub second: u32,
@@ -16,11 +16,9 @@ fn second_with(sum: u32, byte: u8) -> u32 {
 pub fn sums_of(bytes: &[u8]) -> Sums {
     let mut first: u32 = 2166136261;
     let mut second: u32 = 2166136261;
-    let mut i = 0;
-    while i < bytes.len() {
-        first = first_with(first, bytes[i]);
-        second = second_with(second, bytes[i]);
-        i += 1;
+    for byte in bytes {
+        first = first_with(first, *byte);
+        second = second_with(second, *byte);
     }
     Sums { first, second }
 }

@@ -6,11 +6,12 @@ mod digest;
 mod tally;
 
 pub use digest::Sums;
+use std::io;
 pub use tally::Tally;
 
 // What a call answers: the number that it returns and its first five answer words. The last of these
 // is kept for later: it is 0 today, as are the three words behind it.
-#[derive(Drop)]
+#[derive(Clone, Copy)]
 pub struct Figures {
     pub number: u32,
     pub place: u32,
@@ -20,7 +21,7 @@ pub struct Figures {
     pub spare: u32,
 }
 
-#[derive(Drop)]
+#[derive(Clone, Copy)]
 pub struct Expected {
     pub figures: Figures,
     // Of the reply's bytes.
@@ -28,7 +29,7 @@ pub struct Expected {
 }
 
 // The first thing that is not as it must be.
-#[derive(Drop)]
+#[derive(Clone, Copy)]
 pub enum Outcome {
     AsExpected,
     // There is less space than is to be lent.
@@ -102,44 +103,33 @@ fn is_rest_zero(answer: [u32; 8]) -> bool {
 }
 
 // Writes what is not as it must be, to the end of its line.
-pub fn tell(outcome: Outcome) {
+pub fn tell(rt: &impl Print, outcome: Outcome) -> io::Result<()> {
     match outcome {
-        Outcome::AsExpected => {}
-        Outcome::NoSpace => {
-            io::write_all(1, b": too little space\n");
-        }
+        Outcome::AsExpected => Ok(()),
+        Outcome::NoSpace => println!(rt; ": too little space"),
         Outcome::Answered(x, expected) => {
-            io::write_all(1, b": answered");
-            tell_figures(x);
-            io::write_all(1, b", expected");
-            tell_figures(expected);
-            io::write_all(1, b"\n");
+            print!(rt; ": answered")?;
+            tell_figures(rt, x)?;
+            print!(rt; ", expected")?;
+            tell_figures(rt, expected)?;
+            println!(rt; "")
         }
-        Outcome::AnswerRest => {
-            io::write_all(1, b": an answer word behind the figures is not 0\n");
-        }
-        Outcome::Work => {
-            io::write_all(1, b": the work slice is not left as it must be\n");
-        }
-        Outcome::Reply => {
-            io::write_all(1, b": the reply differs\n");
-        }
-        Outcome::ReplyRest => {
-            io::write_all(1, b": the bytes behind the reply are not kept\n");
-        }
+        Outcome::AnswerRest => println!(rt; ": an answer word behind the figures is not 0"),
+        Outcome::Work => println!(rt; ": the work slice is not left as it must be"),
+        Outcome::Reply => println!(rt; ": the reply differs"),
+        Outcome::ReplyRest => println!(rt; ": the bytes behind the reply are not kept"),
     }
 }
 
-fn tell_figures(x: Figures) {
-    tell_figure(x.number);
-    tell_figure(x.place);
-    tell_figure(x.count);
-    tell_figure(x.extra);
-    tell_figure(x.field);
-    tell_figure(x.spare);
+fn tell_figures(rt: &impl Print, x: Figures) -> io::Result<()> {
+    tell_figure(rt, x.number)?;
+    tell_figure(rt, x.place)?;
+    tell_figure(rt, x.count)?;
+    tell_figure(rt, x.extra)?;
+    tell_figure(rt, x.field)?;
+    tell_figure(rt, x.spare)
 }
 
-fn tell_figure(x: u32) {
-    io::write_all(1, b" ");
-    io::print_decimal(1, x as u64);
+fn tell_figure(rt: &impl Print, x: u32) -> io::Result<()> {
+    print!(rt; " {x}")
 }

@@ -1,5 +1,7 @@
 // How many trials there were, and how many of them differ.
-#[derive(Drop)]
+use std::io;
+
+#[derive(Clone, Copy)]
 pub struct Tally {
     pub tried: u32,
     pub differ: u32,
@@ -25,11 +27,12 @@ impl Tally {
     }
 
     // Writes a line, as `12 cases, 0 differ` for ` cases, `.
-    pub fn tell(self, trials: &[u8]) {
-        io::print_decimal(1, self.tried as u64);
-        io::write_all(1, trials);
-        io::print_decimal(1, self.differ as u64);
-        io::write_all(1, b" differ\n");
+    pub fn tell(self, rt: &impl Print, trials: &[u8]) -> io::Result<()> {
+        let tried = self.tried;
+        print!(rt; "{tried}")?;
+        rt.write_all(trials)?;
+        let differ = self.differ;
+        println!(rt; "{differ} differ")
     }
 }
 

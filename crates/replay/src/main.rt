@@ -9,11 +9,13 @@ mod step;
 
 use oracle_list::{Files, Next, Slices};
 use outcome::{Outcome, Tally};
+use std::io::Read;
+use std::{io, rt};
 use step::Step;
 use trial::Lent;
 
 // What is replayed. Of levels a ticket has three assignments.
-#[derive(Drop)]
+#[derive(Clone, Copy)]
 enum Call {
     Check,
     Levels,
@@ -22,16 +24,15 @@ enum Call {
 
 fn judge(
     call: Call,
-    files: Files,
+    files: &mut Files<impl Read>,
     ticket: &[u8],
     space: &mut [u32],
     slices: Slices,
     seed: u32,
-) -> Step {
-    let fd = files.expected;
+) -> io::Result<Step> {
     let words = slices.work;
     match call {
-        Call::Check => check::judge(fd, ticket, space, words, seed),
+        Call::Check => check::judge(&mut files.expected, ticket, space, words, seed),
         Call::Levels => {
             let lent = Lent {
                 words,
@@ -44,7 +45,15 @@ fn judge(
                 words,
                 bytes: slices.reply,
             };
-            reply::judge(replying, fd, ticket, b"", space, lent, seed)
+            reply::judge(
+                replying,
+                &mut files.expected,
+                ticket,
+                b"",
+                space,
+                lent,
+                seed,
+            )
         }
     }
 }
@@ -52,18 +61,18 @@ fn judge(
 // The ticket is the first bytes of a buffer.
 fn tried(
     call: Call,
-    files: Files,
+    files: &mut Files<impl Read>,
     buffer: &[u8],
     bytes: usize,
     space: &mut [u32],
     seed: u32,
-) -> Step {
+) -> io::Result<Step> {
     let mut x = [0; 6];
-    if io::read_full(files.slices, &mut x) < 6 {
-        return Step::Torn;
+    if oracle_list::read_full(&mut files.slices, &mut x)? < 6 {
+        return Ok(Step::Torn);
     }
     if buffer.len() < bytes {
-        return Step::Torn;
+        return Ok(Step::Torn);
     }
     judge(
         call,
@@ -76,79 +85,89 @@ fn tried(
 }
 
 // Whether the call's files are read to their ends.
-fn is_all_read(call: Call, files: Files) -> bool {
+fn is_all_read(call: Call, files: &mut Files<impl Read>) -> io::Result<bool> {
     if let Call::Levels = call {
-        if !oracle_list::is_at_end(files.stimuli) {
-            return false;
+        if !oracle_list::is_at_end(&mut files.stimuli)? {
+            return Ok(false);
         }
     }
-    oracle_list::is_at_end(files.slices) && oracle_list::is_at_end(files.expected)
+    Ok(oracle_list::is_at_end(&mut files.slices)? && oracle_list::is_at_end(&mut files.expected)?)
 }
 
-fn ended(call: Call, files: Files) -> Step {
-    if is_all_read(call, files) {
+fn ended(call: Call, files: &mut Files<impl Read>) -> io::Result<Step> {
+    Ok(if is_all_read(call, files)? {
         Step::End
     } else {
         Step::Torn
-    }
+    })
 }
 
 // One ticket of the list.
-fn one(call: Call, files: Files, buffer: &mut [u8], space: &mut [u32], seed: u32) -> Step {
-    match oracle_list::next_ticket(files.tickets, buffer) {
+fn one(
+    call: Call,
+    files: &mut Files<impl Read>,
+    buffer: &mut [u8],
+    space: &mut [u32],
+    seed: u32,
+) -> io::Result<Step> {
+    match oracle_list::next_ticket(&mut files.tickets, buffer)? {
         Next::Read(n) => tried(call, files, buffer, n, space, seed),
         Next::End => ended(call, files),
-        Next::Torn => Step::Torn,
+        Next::Torn => Ok(Step::Torn),
     }
 }
 
-fn differs(name: &[u8], number: u32, outcome: Outcome) -> bool {
+fn differs(rt: &impl Print, name: &[u8], number: u32, outcome: Outcome) -> io::Result<bool> {
     if let Outcome::AsExpected = outcome {
-        return false;
+        return Ok(false);
     }
-    io::write_all(1, name);
-    io::write_all(1, b" ticket ");
-    io::print_decimal(1, number as u64);
-    outcome::tell(outcome);
-    true
+    rt.write_all(name)?;
+    print!(rt; " ticket {number}")?;
+    outcome::tell(rt, outcome)?;
+    Ok(true)
 }
 
-fn run(call: Call, name: &[u8], files: Files, buffer: &mut [u8], space: &mut [u32]) -> Tally {
+fn run(
+    rt: &impl Print,
+    call: Call,
+    name: &[u8],
+    files: &mut Files<impl Read>,
+    buffer: &mut [u8],
+    space: &mut [u32],
+) -> io::Result<Tally> {
     let mut tally = Tally::new();
-    let mut turns = u32::MAX;
-    while turns > 0 {
-        turns -= 1;
-        match one(call, files, buffer, space, tally.tried) {
+    for _ in 0..u32::MAX {
+        match one(call, files, buffer, space, tally.tried)? {
             Step::Tried(outcome) => {
-                tally = tally.and(differs(name, tally.tried, outcome));
+                tally = tally.and(differs(rt, name, tally.tried, outcome)?);
             }
             Step::End => {
-                return tally;
+                return Ok(tally);
             }
             Step::Torn => {
-                io::write_all(1, b"the files do not go together\n");
-                return tally.and(true);
+                println!(rt; "the files do not go together")?;
+                return Ok(tally.and(true));
             }
         }
     }
-    tally
+    Ok(tally)
 }
 
-fn replay(call: Call, name: &[u8]) {
-    let files = oracle_list::open(name);
+fn replay(rt: &(impl rt::Files + Print), call: Call, name: &[u8]) -> io::Result<()> {
+    let mut files = oracle_list::open(rt, name)?;
     let mut buffer = [0; 16384];
     let mut space = [0; 17000];
-    let tally = run(call, name, files, &mut buffer, &mut space);
+    let tally = run(rt, call, name, &mut files, &mut buffer, &mut space)?;
     oracle_list::close(files);
-    io::write_all(1, name);
-    io::write_all(1, b" ");
-    tally.tell(b" tickets, ");
+    rt.write_all(name)?;
+    rt.write_all(b" ")?;
+    tally.tell(rt, b" tickets, ")
 }
 
-fn main() {
-    replay(Call::Check, b"check");
-    replay(Call::Replying(trial::Call::Compact), b"compact");
-    replay(Call::Replying(trial::Call::Merge), b"merge");
-    replay(Call::Replying(trial::Call::Rewrite), b"rewrite");
-    replay(Call::Levels, b"levels");
+fn main(rt: HostRuntime) -> io::Result<()> {
+    replay(&rt, Call::Check, b"check")?;
+    replay(&rt, Call::Replying(trial::Call::Compact), b"compact")?;
+    replay(&rt, Call::Replying(trial::Call::Merge), b"merge")?;
+    replay(&rt, Call::Replying(trial::Call::Rewrite), b"rewrite")?;
+    replay(&rt, Call::Levels, b"levels")
 }

@@ -1,7 +1,7 @@
 use outcome::Outcome;
 
 // What comes of a ticket of the list.
-#[derive(Drop)]
+#[derive(Clone, Copy)]
 pub enum Step {
     Tried(Outcome),
     End,

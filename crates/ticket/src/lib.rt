@@ -1,4 +1,4 @@
-// The exports for C: each call, its answer put into eight words and its number returned.
+// The calls as C has them: each call, its answer put into eight words and its number returned. The crate `ticket_c` exports them.
 #![tactic(auto)]
 
 ghost use Rattle.std.specs.Prelude.{◌≡◌, length};
@@ -7,8 +7,7 @@ ghost use Rattle.calls.specs.Work.{cleared};
 ghost use Rattle.calls.specs.Answers.{check_figures, written_figures, merged_figures, words_of};
 ghost use Rattle.calls.specs.Calls.{check_answer, level_answer, level_reply, compact_answer, compact_reply, merge_answer, merge_reply, rewrite_answer, rewrite_reply};
 
-#[unsafe(no_mangle)]
-pub extern "C" fn cabbagetier_check(ticket: &[u8], work: &mut [u32], answer: &mut [u32; 8]) -> u32
+pub fn cabbagetier_check(ticket: &[u8], work: &mut [u32], answer: &mut [u32; 8]) -> u32
     ensures value { result ≡ (check_figures (check_answer (length work.old) ticket.now)).number }
     ensures work_after { work.new ≡ cleared work.old }
     ensures answer_after { answer.new ≡ words_of (check_figures (check_answer (length work.old) ticket.now)) }
@@ -17,8 +16,7 @@ pub extern "C" fn cabbagetier_check(ticket: &[u8], work: &mut [u32], answer: &mu
     answers::tell_checked(k, answer)
 }
 
-#[unsafe(no_mangle)]
-pub extern "C" fn cabbagetier_levels(
+pub fn cabbagetier_levels(
     ticket: &[u8],
     levels: &[u8],
     work: &mut [u32],
@@ -34,8 +32,7 @@ pub extern "C" fn cabbagetier_levels(
     answers::tell_written(w, answer)
 }
 
-#[unsafe(no_mangle)]
-pub extern "C" fn cabbagetier_compact(
+pub fn cabbagetier_compact(
     ticket: &[u8],
     work: &mut [u32],
     reply: &mut [u8],
@@ -50,8 +47,7 @@ pub extern "C" fn cabbagetier_compact(
     answers::tell_written(w, answer)
 }
 
-#[unsafe(no_mangle)]
-pub extern "C" fn cabbagetier_merge(
+pub fn cabbagetier_merge(
     ticket: &[u8],
     work: &mut [u32],
     reply: &mut [u8],
@@ -66,8 +62,7 @@ pub extern "C" fn cabbagetier_merge(
     answers::tell_merged(m, answer)
 }
 
-#[unsafe(no_mangle)]
-pub extern "C" fn cabbagetier_rewrite(
+pub fn cabbagetier_rewrite(
     ticket: &[u8],
     work: &mut [u32],
     reply: &mut [u8],

@@ -1,7 +1,7 @@
 // A call that writes a reply, tried.
 use outcome::{Expected, Outcome};
 
-#[derive(Drop)]
+#[derive(Clone, Copy)]
 pub enum Call {
     Levels,
     Compact,
@@ -10,7 +10,7 @@ pub enum Call {
 }
 
 // How many words of work and how many bytes of reply are lent.
-#[derive(Drop)]
+#[derive(Clone, Copy)]
 pub struct Lent {
     pub words: usize,
     pub bytes: usize,
