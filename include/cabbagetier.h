@@ -1,4 +1,4 @@
-/* The gate-ticket calls. Link target/staticlib/libticket.a, which `rt staticlib ticket` writes.
+/* The gate-ticket calls. Link target/staticlib/libticket.a, which `tools/archive` writes.
  *
  * A ticket is `ticket_len` bytes: records of 16 bytes, little-endian, byte 0 kind, byte 1 flags, bytes 2-3 bit,
  * bytes 4-7 a, 8-11 b, 12-15 c. Record s is slot s and drives net s + 2; an output drives none. Nets 0, 1 and

@@ -11,7 +11,7 @@ fn main() {
     println!("cargo::rerun-if-env-changed=TICKET_LIB");
     println!("cargo::rerun-if-changed={}", library.display());
     println!("cargo::rustc-link-arg={}", library.display());
-    assert!(library.exists(), "{}: run `rt staticlib ticket`, or set TICKET_LIB", library.display());
+    assert!(library.exists(), "{}: run `tools/archive`, or set TICKET_LIB", library.display());
 
     let nm = Command::new("nm").args(["-g", "--defined-only"]).arg(&library).output().expect("nm");
     let symbols = String::from_utf8(nm.stdout).unwrap();
