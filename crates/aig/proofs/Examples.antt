@@ -5,7 +5,7 @@ use Rattle.value.specs.Value.{UNDEF, net_at, eq_net, eq_control, not_control, ca
 use Rattle.cell.specs.declared.Cell.TheVariants.{Not, Aig}
 use Rattle.design.specs.declared.Source.TheVariants.{Opaque, Known}
 use Rattle.normalize.specs.declared.Outcome.TheVariants.{Value, Form}
-use Rattle.normalize.specs.Outcomes.{◌or_else◌, given, from_control}
+use Rattle.normalize.specs.Outcomes.{◌or_else◌, from_control}
 use Rattle.aig.specs.Aig.{if_not, if_aig, if_xor, aig_of_not, aig_of_and, aig_of_nand, aig_of_xor, aig_order, aig_rule}
 
 -- undefined is its own inverse: idempotence is asked before contradiction

@@ -1,13 +1,10 @@
 -- Laws of stores of bytes. Assumes nothing.
-use mathlib.Core.Path.{◌≡◌, refl, sym, ap, ap₂, ◌∙◌, subst}
-use mathlib.Core.Bool.{Bool, true, false, ◌&&◌}
+use mathlib.Core.Path.{◌≡◌, refl, ap, ap₂, ◌∙◌}
 use mathlib.Core.List.{List, [], ◌∷◌, ◌++◌}
-use Prim.Native.Nat.{ℕ, zero, suc, ◌+◌, ◌*◌, ◌/◌, ◌%◌, ◌<◌, ◌≤◌}
+use Prim.Native.Nat.{ℕ, suc, ◌+◌}
 use native.Mathlib.Omega.{arith}
 use native.Mathlib.Numerals.{add-one}
-use native.Mathlib.Decide.{dec_lt}
-use lib.ListN.{length, get_or, set, get_or-eq_default}
-use lib.Dec.{T, leb, leb→le}
+use lib.ListN.{length, set}
 use lib.Seq.{sets}
 use Rattle.cell.specs.declared.Record.{Record}
 use Rattle.cell.specs.Bytes.{bytes16, bytes32, store16, store32}

@@ -16,7 +16,6 @@ use Rattle.value.specs.declared.Driver.TheVariants as driven
 use Rattle.value.specs.Value.{driver}
 use Rattle.logic.specs.declared.Trit.{Trit}
 use Rattle.cell.specs.declared.Record.{Record}
-use Rattle.cell.specs.declared.Cell.{Cell}
 use Rattle.basics.specs.Lists.{tabulate, any_of, joined}
 use Rattle.cell.specs.Records.{record_of, cell_of}
 use Rattle.basics.proofs.Tables.{tabulate-length, tabulate-at}

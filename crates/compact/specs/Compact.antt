@@ -4,7 +4,6 @@ use Rattle.value.specs.declared.Net.{Net}
 use Rattle.value.specs.declared.Driver.{Driver}
 use Rattle.value.specs.declared.Driver.TheVariants as driven
 use Rattle.value.specs.Value.{driver}
-use Rattle.cell.specs.declared.Cell.{Cell}
 use Rattle.netlist.specs.Shape.{visit_mut, has_effects}
 use Rattle.netlist.specs.Netlist.{Netlist, cell_in, start_of, iter_cells, cell_deps}
 use Rattle.basics.specs.Lists.{slots, those}

@@ -7,7 +7,6 @@ use native.Mathlib.Omega.{arith}
 use native.Mathlib.Decide.{dec_lt}
 use lib.ListN.{length, get_or, get_or-eq_default}
 use lib.Dec.{T}
-use Rattle.kinds.specs.declared.Kind.{Kind}
 use Rattle.kinds.specs.declared.Sort.{Sort}
 use Rattle.kinds.specs.declared.Sort.TheVariants.{Unknown, Input, Output, Buf, Not, And, Or, Xor, Mux, Aig}
 use Rattle.kinds.specs.Kinds.{sorts, sort_of, number_of, kind_table, kind_of}

@@ -5,7 +5,6 @@ use Prim.Native.Nat.{ℕ, ◌≤◌}
 use native.Mathlib.Omega.{arith}
 use lib.Dec.{eqb, leb}
 use borrow.Author.Tests.{lt-leb, ne_eqb}
-use Rattle.kinds.specs.declared.Sort.{Sort}
 use Rattle.kinds.specs.Kinds.{sort_of, kind_table, kind_of, is_operand_use, is_used, commutes, is_source_sort}
 use Rattle.kinds.proofs.Laws.{rows_agree, by_row}
 

@@ -1,10 +1,11 @@
--- Laws of decimal digits: they read back as the number, and they are what `{}` writes. Assumes nothing.
+-- Laws of decimal digits: they read back as the number, they are the fewest that hold it, and they are what `{}` writes. Assumes nothing.
 use Rattle.std.proofs.Common.{◌≡◌, refl, sym, ap, ◌∙◌, subst, List, [], ◌∷◌, ◌++◌, ℕ, zero, suc, ◌+◌, ◌*◌, ◌/◌, ◌%◌, ◌-◌, ◌^◌, ◌<◌, ◌≤◌, length, arith}
 use native.Mathlib.Decide.{dec_lt}
 use borrow.Author.Tests.{lt-ltb, le-ltb}
 use Rattle.std.specs.Fmt.{decimal as displayed}
 use Rattle.std.proofs.lemmas.Fmt.{AppendsLastDigit, decimal_from_appends, length-decimal-le, length-decimal-le_succ}
-use Rattle.lines.specs.Decimal.{digit, digits_in, decimal, read_from}
+use native.Mathlib.Nat.{pow-suc, one-le-pow, zero-lt-suc}
+use Rattle.lines.specs.Decimal.{digit, digits_in, decimal, read_from, IsDigitCount, last_digits}
 
 -- ---- one digit more
 digits-one : (k n : ℕ) → n < 10 → digits_in (suc k) n ≡ digit n ∷ []
@@ -62,6 +63,22 @@ read-in (suc k) n h = elim (dec_lt n 10) [
 
 pub reads-back : (n : ℕ) → read_from 0 (decimal n) ≡ n
 reads-back n = read-in (suc n) n (omega arith)
+
+-- ---- they are the fewest that hold it
+tenth-of : (p n : ℕ) → p * 10 ≤ n → p ≤ n / 10
+tenth-of p n h = omega arith
+
+pub fewest-are : (k n : ℕ) → IsDigitCount n k → last_digits k n ≡ decimal n
+fewest-are zero n f = absurd (omega (arith, f.0))
+fewest-are (suc zero) n f =
+    let h : n < 10 = omega (arith, f.1) in
+    let e : n % 10 ≡ n = omega arith in
+    ap (λ (d : ℕ). digit d ∷ []) e ∙ sym (decimal-one n h)
+fewest-are (suc (suc k)) n f =
+    let low : 10 ^ (suc k) ≤ n = subst (λ (j : ℕ). 10 ^ j ≤ n) (omega arith) (f.2 (omega arith)) in
+    let ten : 10 ≤ n = omega (arith, pow-suc 10 k, one-le-pow k 10 (zero-lt-suc 9)) in
+    let tenth : IsDigitCount (n / 10) (suc k) = (omega arith, omega (arith, pow-suc 10 (suc k), f.1), λ h. subst (λ (j : ℕ). 10 ^ j ≤ n / 10) (omega arith) (tenth-of (10 ^ k) n (omega (arith, pow-suc 10 k)))) in
+    ap (λ (ds : List ℕ). ds ++ (digit (n % 10) ∷ [])) (fewest-are (suc k) (n / 10) tenth) ∙ sym (decimal-more n ten)
 
 -- ---- they are what `{}` writes of a number, in std's definition
 appends : AppendsLastDigit digits_in

@@ -1,5 +1,5 @@
 -- A number in decimal, in ASCII (paper, "Tickets to try"). Assumes nothing: these are definitions.
-use Rattle.std.specs.Prelude.{cond, List, [], ◌∷◌, ◌++◌, ℕ, zero, suc, ◌+◌, ◌*◌, ◌-◌, ◌/◌, ◌%◌, ltb}
+use Rattle.std.specs.Prelude.{cond, List, [], ◌∷◌, ◌++◌, ℕ, zero, suc, ◌+◌, ◌*◌, ◌-◌, ◌/◌, ◌%◌, ◌^◌, ◌<◌, ◌≤◌, ltb}
 
 -- a number below 10
 abbrev pub digit : ℕ → ℕ
@@ -18,3 +18,12 @@ decimal n = digits_in (n + 1) n
 unfoldable pub read_from : ℕ → List ℕ → ℕ
 read_from v [] = v
 read_from v (d ∷ ds) = read_from (10 * v + (d - 48)) ds
+
+-- n is written in so many digits, 0 too in one: it is below ten to that power, and where there are several, one less would not do
+abbrev pub IsDigitCount : ℕ → ℕ → Type 0
+IsDigitCount n k = (1 ≤ k) × (n < 10 ^ k) × (1 < k → 10 ^ (k - 1) ≤ n)
+
+-- its last k digits
+abbrev pub last_digits : ℕ → ℕ → List ℕ
+last_digits zero n = []
+last_digits (suc k) n = last_digits k (n / 10) ++ (digit (n % 10) ∷ [])

@@ -1,6 +1,5 @@
 -- `Normalize` (generic/src/rewrite/normalize.rs), in the order of its arms. Assumes nothing: these are definitions.
 use Rattle.std.specs.Prelude.{Bool, not}
-use Rattle.value.specs.declared.Net.{Net}
 use Rattle.value.specs.Value.{le_net, le_control}
 use Rattle.cell.specs.declared.Cell.{Cell}
 use Rattle.cell.specs.declared.Cell.TheVariants.{Input, Output, Buf, Not, And, Or, Xor, Mux, Aig}

@@ -1,9 +1,7 @@
 -- Outcomes of rules and how tests are strung together. Assumes nothing: these are definitions.
 use Rattle.std.specs.Prelude.{Bool, true, false, cond}
-use Rattle.value.specs.declared.Net.{Net}
 use Rattle.value.specs.declared.ControlNet.{ControlNet}
 use Rattle.value.specs.declared.ControlNet.TheVariants.{Pos, Neg}
-use Rattle.cell.specs.declared.Cell.{Cell}
 use Rattle.cell.specs.declared.Cell.TheVariants.{Not}
 use Rattle.normalize.specs.declared.Outcome.{Outcome}
 use Rattle.normalize.specs.declared.Outcome.TheVariants.{None, Value, Form, Add, NotOf, AddNotOf}

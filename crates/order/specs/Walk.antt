@@ -1,6 +1,6 @@
 -- The walk that both orders and `compact` take: down from each item to those that it depends on, each item once.
 -- After the stacks of netlist/src/design.rs, which hold the items on the way down. Assumes nothing: these are definitions.
-use Rattle.std.specs.Prelude.{Bool, true, false, cond, List, [], ◌∷◌, ◌++◌, ℕ, zero, suc, length, get_or, set, replicate}
+use Rattle.std.specs.Prelude.{Bool, true, false, cond, List, [], ◌∷◌, ◌++◌, ℕ, zero, suc, get_or, set, replicate}
 
 -- `visited` by item, and `result`
 pub record Walk : Type 0 where

@@ -1,5 +1,5 @@
 -- The state of the rewriter (netlist/src/rewrite.rs, `Rewriter`), with processing stamps beside. Assumes nothing: these are definitions.
-use Rattle.std.specs.Prelude.{Bool, cond, not, List, [], ◌∷◌, ◌++◌, ℕ, suc, ◌+◌, ◌*◌, eqb, length, get_or, set, replicate}
+use Rattle.std.specs.Prelude.{Bool, cond, List, [], ◌∷◌, ◌++◌, ℕ, suc, ◌+◌, ◌*◌, eqb, length, get_or, set, replicate}
 use Rattle.value.specs.declared.Net.{Net}
 use Rattle.value.specs.declared.Driver.{Driver}
 use Rattle.value.specs.declared.Driver.TheVariants as driven
@@ -7,7 +7,7 @@ use Rattle.value.specs.Value.{driver, net, le_net, le_control}
 use Rattle.cell.specs.declared.Cell.{Cell}
 use Rattle.cell.specs.declared.Cell.TheVariants.{Input, Output, Buf, Not, And, Or, Xor, Mux, Aig}
 use Rattle.design.specs.declared.Source.{Source}
-use Rattle.design.specs.declared.Source.TheVariants.{Opaque, Known}
+use Rattle.design.specs.declared.Source.TheVariants.{Opaque}
 use Rattle.design.specs.Queue.{Design, unchanged, add_cell}
 use Rattle.numberer.specs.Numberer.{Entry}
 

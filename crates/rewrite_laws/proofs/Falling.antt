@@ -16,7 +16,7 @@ use Rattle.cell.specs.declared.Cell.TheVariants.{Input, Output, Buf, Not, And, O
 use Rattle.design.specs.declared.Source.{Source}
 use Rattle.normalize.specs.declared.Outcome.{Outcome}
 use Rattle.normalize.specs.declared.Outcome.TheVariants.{Form, NotOf}
-use Rattle.normalize.specs.Outcomes.{◌or_else◌, given, from_control}
+use Rattle.normalize.specs.Outcomes.{given, from_control}
 use Rattle.normalize.specs.Normalize.{normalize}
 use Rattle.aig.specs.Aig.{differ, not_rule, xor_of, aig_order, aig_rule, xor_order, xor_rule, simple_aig_opt}
 use Rattle.rewrite.specs.Rewriter.{Rewriter, Lookup, rank, stamp, weight, find_cell}

@@ -1,5 +1,4 @@
 -- `cell_order::next_dep` meets its contract. Assumes nothing.
-use Prim.Native.Nat.{◌-◌}
 use Rattle.cell_order.proofs.Lowest.{scanning-begins, scanning-more, scanning-ends}
 use Rattle.cell_order.proofs.next_dep.Goals as goal
 

@@ -1,5 +1,4 @@
 -- `cell_order::put_outputs` meets its contract. Assumes nothing.
-use Prim.Native.Nat.{◌-◌}
 use Rattle.cell_order.proofs.Starts.{appending-begins, appending-free, appending-more, appending-ends}
 use borrow.Author.Rules.{rules}
 use Rattle.cell_order.proofs.put_outputs.Goals as goal

@@ -1,5 +1,4 @@
 -- `cell_order::put_sources` meets its contract. Assumes nothing.
-use Prim.Native.Nat.{◌-◌}
 use Rattle.cell_order.proofs.Starts.{putting-begins, putting-ready, putting-new, putting-more, putting-ends}
 use Rattle.cell_order.proofs.put_sources.Goals as goal
 

@@ -1,5 +1,4 @@
 -- `cell_order::walk_starts` meets its contract. Assumes nothing.
-use Prim.Native.Nat.{◌-◌}
 use Rattle.cell_order.proofs.Starts.{going-begins, going_more, going-ends}
 use Rattle.cell_order.proofs.walk_starts.Goals as goal
 

@@ -1,5 +1,4 @@
 use native.Mathlib.Omega.{arith}
-use Prim.Native.Nat.{◌-◌}
 use mathlib.Core.Path.{◌∙◌, ap}
 use Rattle.cell.specs.Records.{record_at}
 use Rattle.checking.proofs.record_before.Goals as goal

@@ -1,6 +1,5 @@
 use borrow.Author.Rules.{rules}
 use native.Mathlib.Omega.{arith}
-use Prim.Native.Nat.{◌-◌}
 use Rattle.refusals.proofs.Stages.{slots-none}
 use Rattle.checking.proofs.Records.{decided, passed, all-passed}
 use Rattle.checking.proofs.records_verdict.Goals as goal

@@ -1,5 +1,4 @@
 use Rattle.compact.proofs.Compacting.{writing-none, writing-room, writing_more, writing-all}
-use Prim.Native.Nat.{◌-◌}
 use native.Mathlib.Omega.{arith}
 use borrow.Author.Rules.{rules}
 use Rattle.compact.proofs.compact.Goals as goal

@@ -1,5 +1,4 @@
 use Rattle.compact.proofs.Keeping.{keeping-begins, keeping-more, keeping-ends}
-use Prim.Native.Nat.{◌-◌}
 use native.Mathlib.Omega.{arith}
 use Rattle.compact.proofs.mark_kept.Goals as goal
 

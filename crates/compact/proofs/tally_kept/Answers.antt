@@ -1,5 +1,4 @@
 use Rattle.compact.proofs.Tallying.{tallying-none, twice-fits, word_fits, next_fits, tallying-more, tallying-all}
-use Prim.Native.Nat.{◌-◌}
 use native.Mathlib.Omega.{arith}
 use Rattle.compact.proofs.tally_kept.Goals as goal
 

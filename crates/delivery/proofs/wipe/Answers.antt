@@ -1,6 +1,5 @@
 -- `delivery::wipe` meets its contract. Assumes nothing.
 use native.Mathlib.Omega.{arith}
-use Prim.Native.Nat.{◌-◌}
 use Rattle.delivery.proofs.Work.{wiping-none, wiping-more, wiping-all}
 use Rattle.delivery.proofs.wipe.Goals as goal
 

@@ -1,5 +1,4 @@
 use native.Mathlib.Omega.{arith}
-use Prim.Native.Nat.{◌-◌}
 use Rattle.levels.proofs.Slots.{counts-none, counts-more, counts_all}
 use Rattle.levels.proofs.count_kind.Goals as goal
 

@@ -1,5 +1,4 @@
 use native.Mathlib.Omega.{arith}
-use Prim.Native.Nat.{◌-◌}
 use Rattle.levels.proofs.Levels.{folding-none, folding-more, folding-all, folding-frame}
 use Rattle.levels.proofs.fold.Goals as goal
 

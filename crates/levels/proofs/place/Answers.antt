@@ -1,5 +1,4 @@
 use Rattle.levels.proofs.Given.{placing-none, placing-more, placing-all, placing-frame}
-use Prim.Native.Nat.{◌-◌}
 use native.Mathlib.Omega.{arith}
 use Rattle.levels.proofs.place.Goals as goal
 

@@ -1,6 +1,5 @@
 -- `levels_call::stimulus_verdict` meets its contract. Assumes nothing.
 use Rattle.levels_call.proofs.Stimulus.{wrong-count, testing-none, no-level, testing-more, tested}
-use Prim.Native.Nat.{◌-◌}
 use native.Mathlib.Omega.{arith}
 use Rattle.levels_call.proofs.stimulus_verdict.Goals as goal
 

@@ -1,6 +1,5 @@
 -- `levels_call::write_levels` meets its contract. Assumes nothing.
 use Rattle.levels_call.proofs.Outputs.{writing-none, writing_more, writing-all}
-use Prim.Native.Nat.{◌-◌}
 use native.Mathlib.Omega.{arith}
 use Rattle.levels_call.proofs.write_levels.Goals as goal
 

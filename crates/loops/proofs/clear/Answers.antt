@@ -1,5 +1,4 @@
 -- `loops::clear` meets its contract. Assumes nothing.
-use Prim.Native.Nat.{◌-◌}
 use Rattle.loops.proofs.Search.{clearing-none, clearing-inside, clearing-more, clearing-all}
 use Rattle.loops.proofs.clear.Goals as goal
 

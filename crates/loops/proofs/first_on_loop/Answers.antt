@@ -1,5 +1,4 @@
 -- `loops::first_on_loop` meets its contract. Assumes nothing.
-use Prim.Native.Nat.{◌-◌}
 use Rattle.loops.proofs.Search.{seeking-begins, seeking-more, seeking-found, seeking-ends}
 use Rattle.loops.proofs.first_on_loop.Goals as goal
 

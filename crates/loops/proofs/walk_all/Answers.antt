@@ -1,5 +1,4 @@
 -- `loops::walk_all` meets its contract. Assumes nothing.
-use Prim.Native.Nat.{◌-◌}
 use Rattle.loops.proofs.Search.{going-begins, going-coming, going_more, going-stuck, going-ends}
 use Rattle.loops.proofs.walk_all.Goals as goal
 

@@ -1,6 +1,5 @@
 -- `merge::cell_end` meets its contract. Assumes nothing.
 use native.Mathlib.Omega.{arith}
-use Prim.Native.Nat.{◌-◌}
 use Rattle.merge.proofs.Cells.{ending-none, ending-stop, ending-more, ending-all}
 use Rattle.merge.proofs.cell_end.Goals as goal
 

@@ -1,6 +1,5 @@
 -- `merge::find_or_insert_all` meets its contract. Assumes nothing.
 use native.Mathlib.Omega.{arith}
-use Prim.Native.Nat.{◌-◌}
 use Rattle.merge.proofs.Numbering.{numbering-none, numbering-keyed, numbering-more, numbering-all}
 use borrow.Author.Rules.{rules}
 use Rattle.merge.proofs.find_or_insert_all.Goals as goal

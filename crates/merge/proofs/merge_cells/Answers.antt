@@ -1,6 +1,5 @@
 -- `merge::merge_cells` meets its contract. Assumes nothing.
 use native.Mathlib.Omega.{arith}
-use Prim.Native.Nat.{◌-◌}
 use Rattle.merge.proofs.Merging.{turning-none, turning-inside, turning-room, turning-more, turning-all}
 use borrow.Author.Rules.{rules}
 use Rattle.merge.proofs.merge_cells.Goals as goal

@@ -1,6 +1,5 @@
 -- `merge::put_keys` meets its contract. Assumes nothing.
 use native.Mathlib.Omega.{arith}
-use Prim.Native.Nat.{◌-◌}
 use Rattle.merge.proofs.Cells.{keying-none, keying-more, keying-all}
 use Rattle.merge.proofs.put_keys.Goals as goal
 

@@ -1,5 +1,4 @@
 use native.Mathlib.Omega.{arith}
-use Prim.Native.Nat.{◌-◌}
 use Rattle.netlist.proofs.Areas.{loading-none, loading-more, loading-all, loading-frame}
 use Rattle.netlist.proofs.load.Goals as goal
 

@@ -1,6 +1,5 @@
 -- `numberer::count_mix` meets its contract. Assumes nothing.
 use Rattle.numberer.proofs.Mixing.{counting-none, counting-inside, counting-fits, counting_more, counting-all}
-use Prim.Native.Nat.{◌-◌}
 use native.Mathlib.Omega.{arith}
 use Rattle.numberer.proofs.count_mix.Goals as goal
 

@@ -1,7 +1,6 @@
 -- `numberer::find_first` meets its contract. Assumes nothing.
 use Rattle.numberer.proofs.Seeking.{seeking-none, seeking-found, seeking-more, seeking-end}
 use Rattle.numberer.proofs.Mixing.{mixed-at}
-use Prim.Native.Nat.{◌-◌}
 use native.Mathlib.Omega.{arith}
 use borrow.Author.Rules.{rules}
 use Rattle.numberer.proofs.find_first.Goals as goal

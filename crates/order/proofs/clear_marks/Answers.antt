@@ -1,5 +1,4 @@
 -- `order::clear_marks` meets its contract. Assumes nothing.
-use Prim.Native.Nat.{◌-◌}
 use Rattle.order.proofs.Words.{clearing-none, clearing-more, clearing-all}
 use Rattle.order.proofs.clear_marks.Goals as goal
 

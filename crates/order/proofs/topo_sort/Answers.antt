@@ -1,5 +1,4 @@
 -- `order::topo_sort` meets its contract. Assumes nothing.
-use Prim.Native.Nat.{◌-◌}
 use Rattle.order.proofs.Bits.{sorting-begins, sorting-more, sorting-ends}
 use Rattle.order.proofs.topo_sort.Goals as goal
 

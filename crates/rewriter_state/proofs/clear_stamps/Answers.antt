@@ -1,6 +1,5 @@
 -- `rewriter_state::clear_stamps` meets its contract. Assumes nothing.
 use Rattle.rewriter_state.proofs.Standing.{unstamping-none, unstamping-more, unstamping-all}
-use Prim.Native.Nat.{◌-◌}
 use native.Mathlib.Omega.{arith}
 use Rattle.rewriter_state.proofs.clear_stamps.Goals as goal
 

@@ -1,6 +1,5 @@
 -- `rewriter_state::stand` meets its contract. Assumes nothing.
 use Rattle.rewriter_state.proofs.Standing.{standing-none, standing-more, standing-all}
-use Prim.Native.Nat.{◌-◌}
 use native.Mathlib.Omega.{arith}
 use Rattle.rewriter_state.proofs.stand.Goals as goal
 

@@ -1,5 +1,4 @@
 use Rattle.design.proofs.Applying.{applying-none, applying-more, applied-all, applied-flag, applied-frame}
-use Prim.Native.Nat.{◌-◌}
 use native.Mathlib.Omega.{arith}
 use Rattle.design.proofs.queue.apply.Goals as goal
 

@@ -1,5 +1,4 @@
 use Rattle.design.proofs.Replacing.{unchanging-none, unchanging-more, unchanging-all, unchanging-frame}
-use Prim.Native.Nat.{◌-◌}
 use native.Mathlib.Omega.{arith}
 use Rattle.design.proofs.queue.unchanged.Goals as goal
 

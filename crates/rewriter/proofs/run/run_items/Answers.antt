@@ -1,6 +1,5 @@
 -- `rewriter::run::run_items` meets its contract. Assumes nothing.
 use native.Mathlib.Omega.{arith}
-use Prim.Native.Nat.{◌-◌}
 use Rattle.rewriter.proofs.Items.{rolling-none, rolling-ready, rolling-more, rolling-full, rolling-end}
 use Rattle.rewriter.proofs.run.run_items.Goals as goal
 
