@@ -1,6 +1,6 @@
 -- The arms of `SimpleAigOpt` and `Normalize` (generic/src/rewrite/aig.rs, normalize.rs): the places where a rule ends, in the Rust's order and under
--- the names of docs/ARMS.md, with a case for each variant told there. The arms for cells of several bits, and those for cells that no ticket has,
--- are left out. Assumes nothing: these are definitions.
+-- the names of docs/ARMS.md, spelled with underscores, with a case for each variant told there. The arms for cells of several bits, and those for
+-- cells that no ticket has, are left out. Assumes nothing: these are definitions.
 use Rattle.std.specs.Prelude.{List, [], ◌∷◌, ◌++◌}
 use Rattle.value.specs.declared.Net.{Net}
 use Rattle.value.specs.declared.ControlNet.TheVariants.{Pos, Neg}
