@@ -5,11 +5,11 @@ use mathlib.Core.List.{List, [], ◌++◌, map}
 use Prim.Native.Nat.{ℕ, ◌≤◌, ◌<◌}
 use native.Mathlib.Omega.{arith}
 use lib.ListN.{length, length-map}
+use Rattle.std.specs.Prelude.{Ok}
 use Rattle.cell.specs.declared.Record.{Record}
 use Rattle.cell.specs.declared.Cell.{Cell}
 use Rattle.cell.specs.Records.{cell_of}
 use Rattle.loops.proofs.Rank.{rank}
-use Rattle.refusals.specs.declared.Verdict.TheVariants.{Pass}
 use Rattle.refusals.specs.Refusals.{first_of}
 use Rattle.checking.specs.Checking.{netlist_stages}
 use Rattle.netlist.specs.Shape.{visit, comb_reads}
@@ -26,7 +26,7 @@ use Rattle.order_laws.proofs.Accepted.{passed-ranked, passed-wired}
 use Rattle.basics.proofs.Members.{all-imp}
 use Rattle.rewrite_laws.proofs.Running.{RunOk, part-ok, run_ok}
 
-module _ (rs : List Record) (accepted : first_of (netlist_stages rs) ≡ Pass) where
+module _ (rs : List Record) (accepted : first_of (netlist_stages rs) ≡ Ok tt) where
   abbrev cs : List Cell
   cs = map cell_of rs
 

@@ -7,23 +7,21 @@ use Prim.Native.Nat.{ℕ, zero, suc, ◌≤◌, ◌<◌}
 use native.Mathlib.Omega.{arith}
 use lib.Dec.{eqb}
 use lib.ListN.{length}
+use Rattle.std.specs.Prelude.{Ok}
 use Rattle.value.specs.declared.Net.{Net}
 use Rattle.cell.specs.declared.Record.{Record}
 use Rattle.cell.specs.declared.Cell.{Cell}
 use Rattle.cell.specs.declared.Cell.TheVariants.{Not}
 use Rattle.cell.specs.Records.{cell_of}
-use Rattle.refusals.specs.declared.Verdict.TheVariants.{Pass}
 use Rattle.refusals.specs.Refusals.{first_of}
 use Rattle.checking.specs.Checking.{netlist_stages}
 use Rattle.netlist.specs.Shape.{visit_mut, is_splittable}
 use Rattle.netlist.specs.Netlist.{cell_in}
 use Rattle.order.specs.Orders.{topo_sort}
-use Rattle.design.specs.declared.Source.{Source}
-use Rattle.design.specs.declared.Source.TheVariants.{Opaque}
-use Rattle.design.specs.Queue.{Design, map_net_new, find_new_cell}
-use Rattle.normalize.specs.declared.Outcome.{Outcome}
-use Rattle.normalize.specs.declared.Outcome.TheVariants.{None, Value, Form, Add, NotOf, AddNotOf}
-use Rattle.normalize.specs.Outcomes.{◌or_else◌}
+use Rattle.std.specs.Prelude.{None, Some}
+use Rattle.design.specs.Queue.{Design, map_net_new, find_new_cell, Source}
+use Rattle.normalize.specs.declared.Change.TheVariants.{Value, Form, Add, NotOf, AddNotOf}
+use Rattle.normalize.specs.Outcomes.{◌or_else◌, Outcome}
 use Rattle.normalize.specs.Normalize.{normalize}
 use Rattle.aig.specs.Aig.{simple_aig_opt}
 use Rattle.rewrite.specs.Rewriter.{Rewriter, begun, Lookup, stamp, find_cell}
@@ -57,7 +55,7 @@ module _ (look : Lookup) (agrees : (d : Design) (n : Net) → Ends d.replaced n 
     unfolding rules find_cell
     rules-same r' x c =
         ap (λ (f : Net → Source). normalize c or_else simple_aig_opt f c)
-        (fun_ext (λ n. ap (cond (eqb (stamp r'.stamps n) 0) Opaque)
+        (fun_ext (λ n. ap (cond (eqb (stamp r'.stamps n) 0) None)
         (agrees r'.design n (subst (λ (rs : List Net). Ends rs n) (sym x.replaced) (ends n)))))
 
     -- a pass over the rules, what is processed inside it being the same
@@ -78,11 +76,11 @@ module _ (look : Lookup) (agrees : (d : Design) (n : Net) → Ends d.replaced n 
 
       perform-same : (r' : Rewriter) (o : Outcome) → Extends r r' → perform adder r' o ≡ perform adder' r' o
       perform-same r' None x = refl
-      perform-same r' (Value n) x = refl
-      perform-same r' (Form c) x = refl
-      perform-same r' (Add c) x = ap as_value (adder-same r' c x)
-      perform-same r' (NotOf c) x = ap as_not (adder-same r' c x)
-      perform-same r' (AddNotOf c) x =
+      perform-same r' (Some (Value n)) x = refl
+      perform-same r' (Some (Form c)) x = refl
+      perform-same r' (Some (Add c)) x = ap as_value (adder-same r' c x)
+      perform-same r' (Some (NotOf c)) x = ap as_not (adder-same r' c x)
+      perform-same r' (Some (AddNotOf c)) x =
           ap (add_not adder) (adder-same r' c x)
           ∙ not_same (adder' r' c) (enter-kept find_new_cell (Extends r) _ _ (extending find_new_cell r) c (again' r' c) (kept r' c x tt))
 
@@ -110,7 +108,7 @@ module _ (look : Lookup) (agrees : (d : Design) (n : Net) → Ends d.replaced n 
         let c : Cell = visit_mut (map_net_new r.design.replaced) (cell_in r.design.cells s) in
         ap (λ (y : Result). cond (is_splittable c) (bit_done s (enter c y)) (cell_done s c y)) (process-same _ r c (extends-none r))
 
-module _ (rs : List Record) (accepted : first_of (netlist_stages rs) ≡ Pass) where
+module _ (rs : List Record) (accepted : first_of (netlist_stages rs) ≡ Ok tt) where
   abbrev cs : List Cell
   cs = map cell_of rs
 

@@ -10,57 +10,29 @@
 #![tactic(auto)]
 
 ghost use Rattle.std.specs.Prelude.{◌≡◌};
-ghost use Rattle.normalize.specs.declared.Outcome.TheVariants.{Value};
-ghost use Rattle.aig.specs.Aig.{if_not, not_rule};
+ghost use Rattle.aig.specs.Aig.{not_rule};
 
-use design::Source;
-use normalize::Outcome;
-use value::{ControlNet, Net};
+use cell::Cell;
+use normalize::Change;
+use value::Net;
 
 pub mod source;
 
-// What the rules ask of a looked-up cell.
-#[derive(Clone, Copy)]
-pub enum Inverter {
-    Of(Net),
-    Other,
-}
-
-#[derive(Clone, Copy)]
-pub enum AndInverter {
-    Of(ControlNet, ControlNet),
-    Other,
-}
-
-#[derive(Clone, Copy)]
-pub enum XorGate {
-    Of(Net, Net),
-    Other,
-}
-
-// not-not: ~~v -> v
-fn not_of_not(src: Source) -> Outcome
-    ensures { result ≡ if_not src (λ v. Value v) }
-{
-    match source::not_in(src) {
-        Inverter::Of(v) => Outcome::Value(v),
-        Inverter::Other => Outcome::None,
-    }
-}
-
 // `Cell::Not`
-pub fn not_rule(src: Source, n: Net) -> Outcome
+#[tactic(auto, unfolding(normalize::specs::Outcomes::first_change, crate::specs::Aig::not_rule, crate::specs::Aig::if_not, crate::specs::inner::Sources::not_in, value::specs::Value::eq_net))]
+pub fn not_rule(src: Option<Cell>, n: Net) -> Option<Change>
     ensures { result ≡ not_rule src n }
 {
     // not-zero, not-one, not-undef
-    if value::net_eq(n, Net::ZERO) {
-        return Outcome::Value(Net::ONE);
+    if n == Net::ZERO {
+        return Some(Change::Value(Net::ONE));
     }
-    if value::net_eq(n, Net::ONE) {
-        return Outcome::Value(Net::ZERO);
+    if n == Net::ONE {
+        return Some(Change::Value(Net::ZERO));
     }
-    if value::net_eq(n, Net::UNDEF) {
-        return Outcome::Value(Net::UNDEF);
+    if n == Net::UNDEF {
+        return Some(Change::Value(Net::UNDEF));
     }
-    not_of_not(src)
+    // not-not: ~~v -> v
+    Some(Change::Value(source::not_in(src)?))
 }

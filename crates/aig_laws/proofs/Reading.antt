@@ -11,11 +11,10 @@ use Rattle.value.proofs.Laws.{net-of}
 use Rattle.cell.specs.declared.Cell.{Cell}
 use Rattle.cell.specs.declared.Cell.TheVariants.{Input, Output, Buf, Not, And, Or, Xor, Mux, Aig}
 use Rattle.netlist.specs.Shape.{visit, has_effects}
-use Rattle.design.specs.declared.Source.{Source}
-use Rattle.design.specs.declared.Source.TheVariants.{Known}
-use Rattle.normalize.specs.declared.Outcome.{Outcome}
-use Rattle.normalize.specs.declared.Outcome.TheVariants.{Form, NotOf}
-use Rattle.normalize.specs.Outcomes.{from_control}
+use Rattle.std.specs.Prelude.{Some}
+use Rattle.design.specs.Queue.{Source}
+use Rattle.normalize.specs.declared.Change.TheVariants.{Form, NotOf}
+use Rattle.normalize.specs.Outcomes.{from_control, Outcome}
 use Rattle.normalize.specs.Normalize.{normalize}
 use Rattle.aig.specs.Aig.{differ, not_rule, xor_of, aig_rule, xor_rule, simple_aig_opt}
 use Rattle.basics.specs.Lists.{All}
@@ -26,19 +25,19 @@ use Rattle.aig_laws.proofs.Arms.{not_arm, aig_arm, xor_arm}
 
 -- the operands of a source
 module _ (N : Net → Type 0) where
-  pub not-source : (src : Source) (v : Net) → SourceNets N src → src ≡ Known (Not v) → N v
+  pub not-source : (src : Source) (v : Net) → SourceNets N src → src ≡ Some (Not v) → N v
   unfolding All visit
   not-source src v h e = (subst (SourceNets N) e h).0
 
   pub aig-source : (src : Source) (p q : ControlNet) → SourceNets N src → HasAig src p q → N (net p) × N (net q)
   unfolding All visit
-  aig-source src p q h (as_is e) = let k : SourceNets N (Known (Aig p q)) = subst (SourceNets N) e h in (k.0, k.1.0)
-  aig-source src p q h (turned e) = let k : SourceNets N (Known (Aig q p)) = subst (SourceNets N) e h in (k.1.0, k.0)
+  aig-source src p q h (as_is e) = let k : SourceNets N (Some (Aig p q)) = subst (SourceNets N) e h in (k.0, k.1.0)
+  aig-source src p q h (turned e) = let k : SourceNets N (Some (Aig q p)) = subst (SourceNets N) e h in (k.1.0, k.0)
 
   pub xor-source : (src : Source) (x y : Net) → SourceNets N src → HasXor src x y → N x × N y
   unfolding All visit
-  xor-source src x y h (as_is e) = let k : SourceNets N (Known (Xor x y)) = subst (SourceNets N) e h in (k.0, k.1.0)
-  xor-source src x y h (turned e) = let k : SourceNets N (Known (Xor y x)) = subst (SourceNets N) e h in (k.1.0, k.0)
+  xor-source src x y h (as_is e) = let k : SourceNets N (Some (Xor x y)) = subst (SourceNets N) e h in (k.0, k.1.0)
+  xor-source src x y h (turned e) = let k : SourceNets N (Some (Xor y x)) = subst (SourceNets N) e h in (k.1.0, k.0)
 
 -- a negated control net is of the same net, or a constant
 pub not-net : (N : Net → Type 0) → N ZERO → N ONE → (x : ControlNet) → N (net x) → N (net (not_control x))
@@ -79,7 +78,7 @@ module _ (N : Net → Type 0) (undef : N UNDEF) (zero : N ZERO) (one : N ONE) wh
   unfolding xor_of
   good-xor aa ab x y = go (differ (is_negative aa) (is_negative ab))
     where
-      go : (t : Bool) → Good (cond t (NotOf (Xor (net aa) (net ab))) (Form (Xor (net aa) (net ab))))
+      go : (t : Bool) → Good (cond t (Some (NotOf (Xor (net aa) (net ab)))) (Some (Form (Xor (net aa) (net ab)))))
       go true = reads-xor (net aa) (net ab) x y
       go false = reads-xor (net aa) (net ab) x y
 
@@ -133,10 +132,10 @@ module _ (N : Net → Type 0) (undef : N UNDEF) (zero : N ZERO) (one : N ONE) wh
   pub normalize-reads : (c : Cell) → Reads c → Good (normalize c)
   unfolding normalize All visit has_effects
   normalize-reads (Buf a) h = h.0.0
-  normalize-reads (And a b) h = has-given Good tt (not (le_net a b)) (Form (And b a)) (λ e. ((h.0.1.0, (h.0.0, tt)), refl))
-  normalize-reads (Or a b) h = has-given Good tt (not (le_net a b)) (Form (Or b a)) (λ e. ((h.0.1.0, (h.0.0, tt)), refl))
-  normalize-reads (Xor a b) h = has-given Good tt (not (le_net a b)) (Form (Xor b a)) (λ e. ((h.0.1.0, (h.0.0, tt)), refl))
-  normalize-reads (Aig p q) h = has-given Good tt (not (le_control p q)) (Form (Aig q p)) (λ e. ((h.0.1.0, (h.0.0, tt)), refl))
+  normalize-reads (And a b) h = has-given Good tt (not (le_net a b)) (Some (Form (And b a))) (λ e. ((h.0.1.0, (h.0.0, tt)), refl))
+  normalize-reads (Or a b) h = has-given Good tt (not (le_net a b)) (Some (Form (Or b a))) (λ e. ((h.0.1.0, (h.0.0, tt)), refl))
+  normalize-reads (Xor a b) h = has-given Good tt (not (le_net a b)) (Some (Form (Xor b a))) (λ e. ((h.0.1.0, (h.0.0, tt)), refl))
+  normalize-reads (Aig p q) h = has-given Good tt (not (le_control p q)) (Some (Form (Aig q p))) (λ e. ((h.0.1.0, (h.0.0, tt)), refl))
   normalize-reads (Input l) h = tt
   normalize-reads (Output a l) h = tt
   normalize-reads (Not a) h = tt

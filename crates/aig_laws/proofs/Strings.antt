@@ -5,11 +5,10 @@ use Rattle.value.specs.declared.Net.{Net}
 use Rattle.value.specs.declared.ControlNet.{ControlNet}
 use Rattle.cell.specs.declared.Cell.TheVariants.{Input, Output, Buf, Not, And, Or, Xor, Mux, Aig}
 use Rattle.cell.specs.declared.Cell.{Cell}
-use Rattle.design.specs.declared.Source.{Source}
-use Rattle.design.specs.declared.Source.TheVariants.{Opaque, Known}
-use Rattle.normalize.specs.declared.Outcome.{Outcome}
-use Rattle.normalize.specs.declared.Outcome.TheVariants.{None, Value, Form, Add, NotOf, AddNotOf}
-use Rattle.normalize.specs.Outcomes.{◌or_else◌, given, either_way}
+use Rattle.std.specs.Prelude.{None, Some}
+use Rattle.design.specs.Queue.{Source}
+use Rattle.normalize.specs.declared.Change.TheVariants.{Value, Form, Add, NotOf, AddNotOf}
+use Rattle.normalize.specs.Outcomes.{◌or_else◌, first_change, given, either_way, Outcome}
 use Rattle.aig.specs.Aig.{if_not, if_aig, if_xor}
 use Rattle.aig_laws.specs.Arms.{Has, as_is, turned, HasAig, HasXor}
 
@@ -19,56 +18,52 @@ has-turned make src p q (turned e) = as_is e
 
 module _ (G : Outcome → Type 0) where
   pub has-or_else : (x y : Outcome) → G x → G y → G (x or_else y)
-  unfolding ◌or_else◌
+  unfolding first_change
   has-or_else None y p q = q
-  has-or_else (Value n) y p q = p
-  has-or_else (Form c) y p q = p
-  has-or_else (Add c) y p q = p
-  has-or_else (NotOf c) y p q = p
-  has-or_else (AddNotOf c) y p q = p
+  has-or_else (Some c) y p q = p
 
   pub has-given : G None → (b : Bool) (o : Outcome) → (b ≡ true → G o) → G (given b o)
   has-given z true o f = f refl
   has-given z false o f = z
 
-  pub has-if_not : G None → (src : Source) (f : Net → Outcome) → ((v : Net) → src ≡ Known (Not v) → G (f v)) → G (if_not src f)
+  pub has-if_not : G None → (src : Source) (f : Net → Outcome) → ((v : Net) → src ≡ Some (Not v) → G (f v)) → G (if_not src f)
   unfolding if_not
-  has-if_not z Opaque f h = z
-  has-if_not z (Known (Not v)) f h = h v refl
-  has-if_not z (Known (Input l)) f h = z
-  has-if_not z (Known (Output a l)) f h = z
-  has-if_not z (Known (Buf a)) f h = z
-  has-if_not z (Known (And a c)) f h = z
-  has-if_not z (Known (Or a c)) f h = z
-  has-if_not z (Known (Xor a c)) f h = z
-  has-if_not z (Known (Mux a c d)) f h = z
-  has-if_not z (Known (Aig p q)) f h = z
+  has-if_not z None f h = z
+  has-if_not z (Some (Not v)) f h = h v refl
+  has-if_not z (Some (Input l)) f h = z
+  has-if_not z (Some (Output a l)) f h = z
+  has-if_not z (Some (Buf a)) f h = z
+  has-if_not z (Some (And a c)) f h = z
+  has-if_not z (Some (Or a c)) f h = z
+  has-if_not z (Some (Xor a c)) f h = z
+  has-if_not z (Some (Mux a c d)) f h = z
+  has-if_not z (Some (Aig p q)) f h = z
 
-  has-if_aig : G None → (src : Source) (f : ControlNet → ControlNet → Outcome) → ((p q : ControlNet) → src ≡ Known (Aig p q) → G (f p q)) → G (if_aig src f)
+  has-if_aig : G None → (src : Source) (f : ControlNet → ControlNet → Outcome) → ((p q : ControlNet) → src ≡ Some (Aig p q) → G (f p q)) → G (if_aig src f)
   unfolding if_aig
-  has-if_aig z Opaque f h = z
-  has-if_aig z (Known (Aig p q)) f h = h p q refl
-  has-if_aig z (Known (Input l)) f h = z
-  has-if_aig z (Known (Output a l)) f h = z
-  has-if_aig z (Known (Buf a)) f h = z
-  has-if_aig z (Known (Not a)) f h = z
-  has-if_aig z (Known (And a c)) f h = z
-  has-if_aig z (Known (Or a c)) f h = z
-  has-if_aig z (Known (Xor a c)) f h = z
-  has-if_aig z (Known (Mux a c d)) f h = z
+  has-if_aig z None f h = z
+  has-if_aig z (Some (Aig p q)) f h = h p q refl
+  has-if_aig z (Some (Input l)) f h = z
+  has-if_aig z (Some (Output a l)) f h = z
+  has-if_aig z (Some (Buf a)) f h = z
+  has-if_aig z (Some (Not a)) f h = z
+  has-if_aig z (Some (And a c)) f h = z
+  has-if_aig z (Some (Or a c)) f h = z
+  has-if_aig z (Some (Xor a c)) f h = z
+  has-if_aig z (Some (Mux a c d)) f h = z
 
-  has-if_xor : G None → (src : Source) (f : Net → Net → Outcome) → ((x y : Net) → src ≡ Known (Xor x y) → G (f x y)) → G (if_xor src f)
+  has-if_xor : G None → (src : Source) (f : Net → Net → Outcome) → ((x y : Net) → src ≡ Some (Xor x y) → G (f x y)) → G (if_xor src f)
   unfolding if_xor
-  has-if_xor z Opaque f h = z
-  has-if_xor z (Known (Xor a c)) f h = h a c refl
-  has-if_xor z (Known (Input l)) f h = z
-  has-if_xor z (Known (Output a l)) f h = z
-  has-if_xor z (Known (Buf a)) f h = z
-  has-if_xor z (Known (Not a)) f h = z
-  has-if_xor z (Known (And a c)) f h = z
-  has-if_xor z (Known (Or a c)) f h = z
-  has-if_xor z (Known (Mux a c d)) f h = z
-  has-if_xor z (Known (Aig p q)) f h = z
+  has-if_xor z None f h = z
+  has-if_xor z (Some (Xor a c)) f h = h a c refl
+  has-if_xor z (Some (Input l)) f h = z
+  has-if_xor z (Some (Output a l)) f h = z
+  has-if_xor z (Some (Buf a)) f h = z
+  has-if_xor z (Some (Not a)) f h = z
+  has-if_xor z (Some (And a c)) f h = z
+  has-if_xor z (Some (Or a c)) f h = z
+  has-if_xor z (Some (Mux a c d)) f h = z
+  has-if_xor z (Some (Aig p q)) f h = z
 
   -- both orders of a source's operands, under a test
   pub has-aig : G None → (src : Source) (t : Bool) (body : ControlNet → ControlNet → Outcome) → ((p q : ControlNet) → HasAig src p q → t ≡ true → G (body p q))

@@ -2,40 +2,40 @@
 // Rules are asked for in the order of the definition, and the first that applies decides. The arms are in `aig_arms`.
 #![tactic(auto)]
 
-ghost use Rattle.std.specs.Prelude.{◌≡◌, false, not, ◌||◌};
+ghost use Rattle.std.specs.Prelude.{◌≡◌, false, not, ◌||◌, Some};
 ghost use Rattle.value.specs.Value.{from_net_invert, is_positive, is_negative, is_always, not_control, eq_control};
 ghost use Rattle.cell.specs.declared.Cell.TheVariants.{Aig};
-ghost use Rattle.normalize.specs.declared.Outcome.TheVariants.{Form};
+ghost use Rattle.normalize.specs.declared.Change.TheVariants.{Form};
 ghost use Rattle.normalize.specs.Outcomes.{◌or_else◌, given, either_way};
 ghost use Rattle.aig.specs.Aig.{aig_of_not, and_with, aig_of_and, nand_with, aig_of_nand, aig_of_xor, aig_order, aig_rule};
 
 use cell::Cell;
-use design::Source;
-use normalize::Outcome;
+use normalize::Change;
 use value::{ControlNet, Net};
 
 // contradiction, and-contradiction: a & ~a -> 0, a & 0 -> 0
 fn contradicts(a: ControlNet, b: ControlNet) -> bool
     ensures { result ≡ (eq_control a (not_control b) || is_always b false) }
 {
-    basics::either(aig_arms::opposite(a, b), b.is_always(false))
+    aig_arms::opposite(a, b) | b.is_always(false)
 }
 
 // and-not: an inverter of v goes into the sign.
-fn merged(v: Net, a: ControlNet, b: ControlNet) -> Outcome
-    ensures { result ≡ Form (Aig (from_net_invert v (not (is_negative a))) b) }
+fn merged(v: Net, a: ControlNet, b: ControlNet) -> Option<Change>
+    ensures { result ≡ Some (Form (Aig (from_net_invert v (not (is_negative a))) b)) }
 {
-    Outcome::Form(Cell::Aig(ControlNet::from_net_invert(v, !a.is_negative()), b))
+    Some(Change::Form(Cell::Aig(ControlNet::from_net_invert(v, !a.is_negative()), b)))
 }
 
 // By the sign of a.
+#[tactic(auto, unfolding(normalize::specs::Outcomes::first_change))]
 fn aig_of_aig(
-    src_b: Source,
+    src_b: Option<Cell>,
     a: ControlNet,
     b: ControlNet,
     a1: ControlNet,
     a2: ControlNet,
-) -> Outcome
+) -> Option<Change>
     ensures { result ≡ (given (is_positive a) (either_way (λ aa ab. and_with src_b a b aa) a1 a2) or_else given (is_negative a) (either_way (nand_with src_b b) a1 a2)) }
 {
     if a.is_positive() {
@@ -45,34 +45,38 @@ fn aig_of_aig(
 }
 
 // By the kind of the cell that a is of.
-fn aig_of_gate(src_a: Source, src_b: Source, a: ControlNet, b: ControlNet) -> Outcome
+#[tactic(auto, unfolding(normalize::specs::Outcomes::first_change, aig::specs::Aig::if_not, aig::specs::Aig::if_aig, aig::specs::Aig::if_xor, aig::specs::Aig::aig_of_not, aig::specs::Aig::aig_of_and, aig::specs::Aig::aig_of_nand, aig::specs::Aig::aig_of_xor))]
+fn aig_of_gate(
+    src_a: Option<Cell>,
+    src_b: Option<Cell>,
+    a: ControlNet,
+    b: ControlNet,
+) -> Option<Change>
     ensures { result ≡ (aig_of_not src_a a b or_else aig_of_and src_a src_b a b or_else aig_of_nand src_a src_b a b or_else aig_of_xor src_a src_b a b) }
 {
-    match src_a {
-        Source::Opaque => Outcome::None,
-        Source::Known(c) => match c {
-            Cell::Not(v) => merged(v, a, b),
-            Cell::Aig(a1, a2) => aig_of_aig(src_b, a, b, a1, a2),
-            Cell::Xor(a1, a2) => aig_arms::xor::xor_with_either(src_b, a, b, a1, a2),
-            Cell::Input(_) => Outcome::None,
-            Cell::Output(_, _) => Outcome::None,
-            Cell::Buf(_) => Outcome::None,
-            Cell::And(_, _) => Outcome::None,
-            Cell::Or(_, _) => Outcome::None,
-            Cell::Mux(_, _, _) => Outcome::None,
-        },
+    match src_a? {
+        Cell::Not(v) => merged(v, a, b),
+        Cell::Aig(a1, a2) => aig_of_aig(src_b, a, b, a1, a2),
+        Cell::Xor(a1, a2) => aig_arms::xor::xor_with_either(src_b, a, b, a1, a2),
+        _ => None,
     }
 }
 
-fn aig_order(src_a: Source, src_b: Source, a: ControlNet, b: ControlNet) -> Outcome
+#[tactic(auto, using(normalize::proofs::First::tests), unfolding(normalize::specs::Outcomes::first_change, normalize::specs::Outcomes::from_control, aig::specs::Aig::aig_order))]
+fn aig_order(
+    src_a: Option<Cell>,
+    src_b: Option<Cell>,
+    a: ControlNet,
+    b: ControlNet,
+) -> Option<Change>
     ensures { result ≡ aig_order src_a src_b a b }
 {
     // idempotence, and-same: a & a -> a
-    if value::control_eq(a, b) {
+    if a == b {
         return normalize::from_control(a);
     }
     if contradicts(a, b) {
-        return Outcome::Value(Net::ZERO);
+        return Some(Change::Value(Net::ZERO));
     }
     // identity, and-one: a & 1 -> a
     if b.is_always(true) {
@@ -81,13 +85,18 @@ fn aig_order(src_a: Source, src_b: Source, a: ControlNet, b: ControlNet) -> Outc
     aig_of_gate(src_a, src_b, a, b)
 }
 
-// In both orders of the operands.
-pub fn aig_rule(src1: Source, src2: Source, net1: ControlNet, net2: ControlNet) -> Outcome
+// In both orders of the operands; a `match` and no `or_else`: its closure would borrow looked-up cells, and the rules took a tenth longer.
+#[tactic(auto, unfolding(normalize::specs::Outcomes::first_change, aig::specs::Aig::aig_rule))]
+pub fn aig_rule(
+    src1: Option<Cell>,
+    src2: Option<Cell>,
+    net1: ControlNet,
+    net2: ControlNet,
+) -> Option<Change>
     ensures { result ≡ aig_rule src1 src2 net1 net2 }
 {
-    let first = aig_order(src1, src2, net1, net2);
-    if normalize::applies(first) {
-        return first;
+    match aig_order(src1, src2, net1, net2) {
+        Some(change) => Some(change),
+        None => aig_order(src2, src1, net2, net1),
     }
-    aig_order(src2, src1, net2, net1)
 }

@@ -1,29 +1,22 @@
 -- The answers of the public calls, and the paper's number and values for each case ("When a ticket is turned away").
 -- Assumes nothing: these are definitions.
-use Rattle.std.specs.Prelude.{Bool, cond, List, [], ◌∷◌, ℕ}
+use Rattle.std.specs.Prelude.{Bool, cond, List, [], ◌∷◌, ℕ, Ok, Err, Result}
 use Rattle.refusals.specs.declared.Refusal.{Refusal}
-use Rattle.refusals.specs.declared.Verdict.{Verdict}
-use Rattle.refusals.specs.declared.Verdict.TheVariants.{Pass, Refused}
-use Rattle.refusals.specs.Refusals.{figures}
-use Rattle.calls.specs.declared.Checked.{Checked}
-use Rattle.calls.specs.declared.Checked.TheVariants as checked
-use Rattle.calls.specs.declared.Written.{Written}
-use Rattle.calls.specs.declared.Written.TheVariants as written
+use Rattle.refusals.specs.Refusals.{figures, Verdict}
+use Rattle.calls.specs.declared.Counts.{Counts}
 use Rattle.calls.specs.declared.Merged.{Merged}
-use Rattle.calls.specs.declared.Merged.TheVariants as merged
 
--- what a verdict and the figures of an accepted ticket are together
-abbrev pub checked_by : Verdict → ℕ → ℕ → Checked
-checked_by Pass records gates = checked.Accepted records gates
-checked_by (Refused r) records gates = checked.Refused r
+-- what checking and merging tell of an accepted ticket; the other calls tell the byte count alone
+abbrev pub counts_of : ℕ → ℕ → Counts
+counts_of records gates = record { records = records; gates = gates }
 
-abbrev pub written_by : Verdict → ℕ → Written
-written_by Pass bytes = written.Accepted bytes
-written_by (Refused r) bytes = written.Refused r
+abbrev pub merged_of : ℕ → Bool → Merged
+merged_of bytes changed = record { bytes = bytes; changed = changed }
 
-abbrev pub merged_by : Verdict → ℕ → Bool → Merged
-merged_by Pass bytes changed = merged.Accepted bytes changed
-merged_by (Refused r) bytes changed = merged.Refused r
+-- the answer of a call: what its verdict and what is told of an accepted ticket are together
+abbrev pub answer_by : {A : Type 0} → Verdict → A → Result A Refusal
+answer_by (Ok u) told = Ok told
+answer_by (Err r) told = Err r
 
 -- number, place, count, the gate count of checking or the changed flag of merging, and the field of refusal 7 (request 2026-06)
 pub record Told : Type 0 where
@@ -40,17 +33,19 @@ accepted count extra = record { number = 0; place = 0; count = count; extra = ex
 abbrev pub refused : Refusal → Told
 refused r = record { number = (figures r).number; place = (figures r).place; count = 0; extra = 0; field = (figures r).field }
 
-abbrev pub check_figures : Checked → Told
-check_figures (checked.Accepted records gates) = accepted records gates
-check_figures (checked.Refused r) = refused r
+-- what is told of an answer: what `told` says of an accepted ticket, or the refusal
+abbrev pub told_as : {A : Type 0} → (A → Told) → Result A Refusal → Told
+told_as told (Ok a) = told a
+told_as told (Err r) = refused r
 
-abbrev pub written_figures : Written → Told
-written_figures (written.Accepted bytes) = accepted bytes 0
-written_figures (written.Refused r) = refused r
+abbrev pub check_figures : Result Counts Refusal → Told
+check_figures = told_as (λ c. accepted c.records c.gates)
 
-abbrev pub merged_figures : Merged → Told
-merged_figures (merged.Accepted bytes changed) = accepted bytes (cond changed 1 0)
-merged_figures (merged.Refused r) = refused r
+abbrev pub written_figures : Result ℕ Refusal → Told
+written_figures = told_as (λ bytes. accepted bytes 0)
+
+abbrev pub merged_figures : Result Merged Refusal → Told
+merged_figures = told_as (λ m. accepted m.bytes (cond m.changed 1 0))
 
 -- the eight answer words of include/cabbagetier.h; the number is what the function returns
 abbrev pub words_of : Told → List ℕ

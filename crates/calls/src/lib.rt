@@ -1,25 +1,16 @@
-// The answers of the public calls.
+// What the public calls answer for an accepted ticket. Levels, compacting and rewriting answer a `u32`, the byte count.
 #![tactic(auto)]
 
-use refusals::Refusal;
-
-// Checking: record count and gate count.
-#[derive(Clone, Copy)]
-pub enum Checked {
-    Accepted(u32, u32),
-    Refused(Refusal),
+// Checking.
+#[derive(Clone, Copy, Debug, PartialEq, Eq)]
+pub struct Counts {
+    pub records: u32,
+    pub gates: u32,
 }
 
-// Levels, compacting, rewriting: the byte count.
-#[derive(Clone, Copy)]
-pub enum Written {
-    Accepted(u32),
-    Refused(Refusal),
-}
-
-// Merging: the byte count and the changed flag.
-#[derive(Clone, Copy)]
-pub enum Merged {
-    Accepted(u32, bool),
-    Refused(Refusal),
+// Merging: the byte count, and whether an operand was changed.
+#[derive(Clone, Copy, Debug, PartialEq, Eq)]
+pub struct Merged {
+    pub bytes: u32,
+    pub changed: bool,
 }

@@ -2,8 +2,9 @@
 // that differs from what it expects.
 #![tactic(auto)]
 
-use outcome::{Outcome, Tally};
+use outcome::Tally;
 use std::{fs, io};
+use trial::Lent;
 
 fn tell_name(rt: &impl Print, text: &[u8], from: usize) -> io::Result<()> {
     let to = case_file::skip_word(text, from);
@@ -36,13 +37,16 @@ fn differs(
     if !case.clear {
         return not_understood(rt, text, at);
     }
-    let expected = case.expected;
-    let outcome = trial::check(&ticket[..n], space, case.lent as usize, seed, expected);
-    if let Outcome::AsExpected = outcome {
+    let work = Lent {
+        space,
+        len: case.lent as usize,
+        seed,
+    };
+    let Err(mismatch) = trial::check(&ticket[..n], work, case.expected) else {
         return Ok(false);
-    }
+    };
     tell_name(rt, text, at)?;
-    outcome::tell(rt, outcome)?;
+    println!(rt; ": {mismatch}")?;
     Ok(true)
 }
 
@@ -62,7 +66,7 @@ fn tried(
 }
 
 fn run(rt: &impl Print, text: &[u8], ticket: &mut [u8], space: &mut [u32]) -> io::Result<Tally> {
-    let mut tally = Tally::new();
+    let mut tally = Tally::new("cases");
     let mut at = 0;
     while at < text.len() {
         tally = tried(rt, text, at, ticket, space, tally)?;
@@ -80,5 +84,6 @@ fn main(rt: HostRuntime) -> io::Result<()> {
     let n = oracle_list::read_full(&mut file, &mut text)?;
     let mut ticket = [0; 16384];
     let mut space = [0; 17000];
-    run(&rt, &text[..n], &mut ticket, &mut space)?.tell(&rt, b" cases, ")
+    let tally = run(&rt, &text[..n], &mut ticket, &mut space)?;
+    println!(rt; "{tally}")
 }

@@ -1,7 +1,7 @@
--- Laws of stores of bytes. Assumes nothing.
+-- Laws of stores of bytes, and of numbers of bytes. Assumes nothing.
 use mathlib.Core.Path.{◌≡◌, refl, ap, ap₂, ◌∙◌}
 use mathlib.Core.List.{List, [], ◌∷◌, ◌++◌}
-use Prim.Native.Nat.{ℕ, suc, ◌+◌}
+use Prim.Native.Nat.{ℕ, suc, ◌+◌, ◌*◌}
 use native.Mathlib.Omega.{arith}
 use native.Mathlib.Numerals.{add-one}
 use lib.ListN.{length, set}
@@ -55,3 +55,10 @@ store_record-is l i r =
     rw (store32-is, store32-is, store32-is, store16-is)
     (store-fields (set (set l i r.kind) (i + 1) r.flags) i r
     ∙ ap₂ (λ (j k : ℕ). sets (set (set l i r.kind) j r.flags) k (bytes16 r.bit ++ (bytes32 r.a ++ (bytes32 r.b ++ bytes32 r.c)))) (add-one i) two)
+
+-- the numbers of two and of four bytes, as std adds them up
+pub digits-of-two : (w x : ℕ) → w + x * 256 ≡ w + 256 * x
+digits-of-two w x = omega arith
+
+pub digits-of-four : (w x y z : ℕ) → w + x * 256 + y * 65536 + z * 16777216 ≡ w + 256 * (x + 256 * (y + 256 * z))
+digits-of-four w x y z = omega arith

@@ -1,4 +1,5 @@
 -- A cell, its record and the record's bytes: each way and back. Assumes nothing.
+use Rattle.std.specs.Prelude.{Option, Some, None, is_some}
 use mathlib.Core.Path.{◌≡◌, refl, sym, ap, ◌∙◌, subst}
 use mathlib.Core.Bool.{true, false≢true}
 use mathlib.Core.List.{List, [], ◌∷◌}
@@ -16,7 +17,7 @@ use Rattle.cell.specs.declared.Cell.TheVariants.{Input, Output, Buf, Not, And, O
 use Rattle.cell.specs.Bytes.{word16, word32, bytes16, bytes32}
 use Rattle.kinds.specs.declared.Sort.{Sort}
 use Rattle.kinds.specs.declared.Sort.TheVariants as sort
-use Rattle.kinds.specs.Kinds.{sort_of, number_of, kind_table, kind_of}
+use Rattle.kinds.specs.Kinds.{sort_of, is_known, number_of, kind_by, kind_of}
 use Rattle.kinds.proofs.Laws.{number-back}
 use Rattle.cell.specs.Records.{record_of, record_at, bytes_of, cell_by, cell_of, cell_record}
 
@@ -42,24 +43,22 @@ ZeroIf Unused x = x ≡ 0
 ZeroIf Label x = Unit {0}
 ZeroIf Operand x = Unit {0}
 
-record WellFormedAs (s : Sort) (r : Record) : Type 0 where
-  known : (kind_table s).known ≡ true
-  b : ZeroIf (kind_table s).b r.b
-  c : ZeroIf (kind_table s).c r.c
-  flags : r.flags ≤ (kind_table s).flags
+record WellFormedAs (o : Option Sort) (r : Record) : Type 0 where
+  b : ZeroIf (kind_by o).b r.b
+  c : ZeroIf (kind_by o).c r.c
+  flags : r.flags ≤ (kind_by o).flags
 
 pub record WellFormed (r : Record) : Type 0 where
-  pub known : (kind_of r.kind).known ≡ true
+  pub known : is_known r.kind ≡ true
   pub a : ZeroIf (kind_of r.kind).a r.a
   pub b : ZeroIf (kind_of r.kind).b r.b
   pub c : ZeroIf (kind_of r.kind).c r.c
   pub flags : r.flags ≤ (kind_of r.kind).flags
 
 -- by sort, and by flags for an and-inverter
-back : (s : Sort) (f bit a b c : ℕ) → WellFormedAs s (record_of (number_of s) f bit a b c)
-    → cell_record bit (cell_by s (record_of (number_of s) f bit a b c)) ≡ record_of (number_of s) f bit a b c
+back : (s : Sort) (f bit a b c : ℕ) → WellFormedAs (Some s) (record_of (number_of s) f bit a b c)
+    → cell_record bit (cell_by (Some s) (record_of (number_of s) f bit a b c)) ≡ record_of (number_of s) f bit a b c
 unfolding cell_record
-back sort.Unknown f bit a b c w = absurd (false≢true w.known)
 back sort.Input f bit a b c w = let e : f ≡ 0 = omega (arith, w.flags) in rw (e, w.b, w.c)
 back sort.Output f bit a b c w = let e : f ≡ 0 = omega (arith, w.flags) in rw (e, w.c)
 back sort.Buf f bit a b c w = let e : f ≡ 0 = omega (arith, w.flags) in rw (e, w.b, w.c)
@@ -76,11 +75,17 @@ back sort.Aig (suc (suc (suc (suc f)))) bit a b c w = absurd (omega (arith, w.fl
 
 pub record-back : (r : Record) → WellFormed r → cell_record r.bit (cell_of r) ≡ r
 unfolding cell_of kind_of
-record-back r w =
-    let s = sort_of r.kind in
-    let at : ℕ → Record = λ k. record_of k r.flags r.bit r.a r.b r.c in
-    subst (λ (k : ℕ). cell_record r.bit (cell_by s (at k)) ≡ at k) (number-back r.kind w.known)
-    (back s r.flags r.bit r.a r.b r.c (record { known = w.known; b = w.b; c = w.c; flags = w.flags }))
+record-back r w = go (sort_of r.kind) refl
+  where
+    at : ℕ → Record
+    at k = record_of k r.flags r.bit r.a r.b r.c
+
+    go : (o : Option Sort) → sort_of r.kind ≡ o → cell_record r.bit (cell_by (sort_of r.kind) r) ≡ r
+    go None e = absurd (false≢true (sym (ap is_some e) ∙ w.known))
+    go (Some s) e =
+        let w′ : WellFormedAs (Some s) r = subst (λ (o : Option Sort). WellFormedAs o r) e (record { b = w.b; c = w.c; flags = w.flags }) in
+        rw e (subst (λ (k : ℕ). cell_record r.bit (cell_by (Some s) (at k)) ≡ at k) (number-back r.kind s e)
+        (back s r.flags r.bit r.a r.b r.c (record { b = w′.b; c = w′.c; flags = w′.flags })))
 
 -- record -> bytes -> record, where each field has its range
 pub record Ranged (r : Record) : Type 0 where

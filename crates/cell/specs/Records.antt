@@ -1,5 +1,5 @@
 -- Records as 16 bytes and as cells (paper, "The ticket"; cell.rs, `Cell`). Assumes nothing: these are definitions.
-use Rattle.std.specs.Prelude.{cond, List, ◌∷◌, ◌++◌, ℕ, ◌+◌, ◌*◌, ◌/◌, ◌%◌, eqb, length, get_or}
+use Rattle.std.specs.Prelude.{cond, List, ◌∷◌, ◌++◌, ℕ, ◌+◌, ◌*◌, ◌/◌, ◌%◌, eqb, length, get_or, Option, Some, None}
 use Rattle.value.specs.declared.ControlNet.{ControlNet}
 use Rattle.value.specs.Value.{ZERO, net_at, from_net_invert, net, is_negative}
 use Rattle.kinds.specs.declared.Sort.{Sort}
@@ -37,17 +37,17 @@ abbrev pub flags_of : ControlNet → ControlNet → ℕ
 flags_of p q = cond (is_negative p) 1 0 + cond (is_negative q) 2 0
 
 -- the cell of a record, by its sort. No record of an unknown kind gets here; as a buffer of a constant it would read no slot
-abbrev pub cell_by : Sort → Record → Cell
-cell_by sort.Unknown r = Buf ZERO
-cell_by sort.Input r = Input r.a
-cell_by sort.Output r = Output (net_at r.a) r.b
-cell_by sort.Buf r = Buf (net_at r.a)
-cell_by sort.Not r = Not (net_at r.a)
-cell_by sort.And r = And (net_at r.a) (net_at r.b)
-cell_by sort.Or r = Or (net_at r.a) (net_at r.b)
-cell_by sort.Xor r = Xor (net_at r.a) (net_at r.b)
-cell_by sort.Mux r = Mux (net_at r.a) (net_at r.b) (net_at r.c)
-cell_by sort.Aig r = Aig (from_net_invert (net_at r.a) (eqb (r.flags % 2) 1)) (from_net_invert (net_at r.b) (eqb (r.flags / 2 % 2) 1))
+abbrev pub cell_by : Option Sort → Record → Cell
+cell_by None r = Buf ZERO
+cell_by (Some sort.Input) r = Input r.a
+cell_by (Some sort.Output) r = Output (net_at r.a) r.b
+cell_by (Some sort.Buf) r = Buf (net_at r.a)
+cell_by (Some sort.Not) r = Not (net_at r.a)
+cell_by (Some sort.And) r = And (net_at r.a) (net_at r.b)
+cell_by (Some sort.Or) r = Or (net_at r.a) (net_at r.b)
+cell_by (Some sort.Xor) r = Xor (net_at r.a) (net_at r.b)
+cell_by (Some sort.Mux) r = Mux (net_at r.a) (net_at r.b) (net_at r.c)
+cell_by (Some sort.Aig) r = Aig (from_net_invert (net_at r.a) (eqb (r.flags % 2) 1)) (from_net_invert (net_at r.b) (eqb (r.flags / 2 % 2) 1))
 
 unfoldable pub cell_of : Record → Cell
 cell_of r = cell_by (sort_of r.kind) r

@@ -2,13 +2,14 @@
 // written into one that the reply has: no byte of it is tested for.
 #![tactic(auto)]
 
-ghost use Rattle.std.specs.Prelude.{◌≡◌, ◌+◌, ◌*◌, ◌/◌, ◌≤◌, ◌<◌, length, get_or, set};
+ghost use Rattle.std.specs.Prelude.{◌≡◌, ◌+◌, ◌*◌, ◌/◌, ◌≤◌, ◌<◌, length};
 ghost use Rattle.std.proofs.lemmas.List.Edits.{sets};
-ghost use Rattle.cell.specs.Bytes.{word16, word32, store16, store32};
+ghost use Rattle.kinds.specs.Kinds.{number_of, field_number};
+ghost use Rattle.cell.specs.Bytes.{word32, store32};
 ghost use Rattle.cell.specs.Operands.{field_of, is_operand, is_comb_edge, edge_of, edge_at};
 ghost use Rattle.cell.specs.Records.{record_at, bytes_of, record_of, flags_of, cell_of, cell_record};
 
-use kinds::Sort;
+use kinds::{Field, Sort};
 use value::{ControlNet, Driver, Net, Slot};
 
 // The 16 bytes of a slot, field by field.
@@ -20,13 +21,6 @@ pub struct Record {
     pub a: u32,
     pub b: u32,
     pub c: u32,
-}
-
-// Where an operand leads: to a slot, or nowhere for a constant or a field that is no such operand.
-#[derive(Clone, Copy)]
-pub enum Edge {
-    To(Slot),
-    Nowhere,
 }
 
 // One bit of a cell, by value (cell.rs, `Cell`, with labels in place of names).
@@ -44,64 +38,12 @@ pub enum Cell {
     Aig(ControlNet, ControlNet),
 }
 
-fn wide(b: u8) -> u32
-    ensures { result ≡ b }
-{
-    b as u32
-}
-
-// A byte, and numbers whose bytes all lie in the slice: no test at the single bytes.
-fn inside(s: &[u8], i: usize) -> u8
-    requires { i < length s.now }
-    ensures { result ≡ get_or s.now i 0 }
-{
-    s[i]
-}
-
-fn inside16(s: &[u8], i: usize) -> u16
-    requires { i + 2 ≤ length s.now }
-    ensures { result ≡ word16 s.now i }
-{
-    let low = inside(s, i) as u16;
-    let high = inside(s, i + 1) as u16;
-    low + 256 * high
-}
-
-fn inside32(s: &[u8], i: usize) -> u32
+// The number of four bytes that all lie in the slice: no test at the single bytes.
+fn word32(s: &[u8], i: usize) -> u32
     requires { i + 4 ≤ length s.now }
     ensures { result ≡ word32 s.now i }
 {
-    let b0 = wide(inside(s, i));
-    let b1 = wide(inside(s, i + 1));
-    let b2 = wide(inside(s, i + 2));
-    let b3 = wide(inside(s, i + 3));
-    b0 + 256 * (b1 + 256 * (b2 + 256 * b3))
-}
-
-// Writers likewise, where all bytes lie in the slice.
-fn set_inside(s: &mut [u8], i: usize, v: u8)
-    requires { i < length s.old }
-    ensures { s.new ≡ set s.old i v }
-{
-    s[i] = v;
-}
-
-fn set16(s: &mut [u8], i: usize, v: u16)
-    requires { i + 2 ≤ length s.old }
-    ensures { s.new ≡ store16 s.old i v }
-{
-    set_inside(s, i, (v % 256) as u8);
-    set_inside(s, i + 1, (v / 256 % 256) as u8);
-}
-
-fn set32(s: &mut [u8], i: usize, v: u32)
-    requires { i + 4 ≤ length s.old }
-    ensures { s.new ≡ store32 s.old i v }
-{
-    set_inside(s, i, (v % 256) as u8);
-    set_inside(s, i + 1, (v / 256 % 256) as u8);
-    set_inside(s, i + 2, (v / 65536 % 256) as u8);
-    set_inside(s, i + 3, (v / 16777216 % 256) as u8);
+    u32::from_le_bytes([s[i], s[i + 1], s[i + 2], s[i + 3]])
 }
 
 // The record of a slot of the ticket.
@@ -111,12 +53,12 @@ pub fn record_at(t: &[u8], s: Slot) -> Record
 {
     let i = (s.0 as usize) * 16;
     Record {
-        kind: inside(t, i),
-        flags: inside(t, i + 1),
-        bit: inside16(t, i + 2),
-        a: inside32(t, i + 4),
-        b: inside32(t, i + 8),
-        c: inside32(t, i + 12),
+        kind: t[i],
+        flags: t[i + 1],
+        bit: u16::from_le_bytes([t[i + 2], t[i + 3]]),
+        a: word32(t, i + 4),
+        b: word32(t, i + 8),
+        c: word32(t, i + 12),
     }
 }
 
@@ -125,97 +67,111 @@ pub fn kind_at(t: &[u8], s: Slot) -> u8
     requires { s.0 < length t.now / 16 }
     ensures { result ≡ (record_at t.now s.0).kind }
 {
-    inside(t, (s.0 as usize) * 16)
+    t[(s.0 as usize) * 16]
 }
 
-// Writes the 16 bytes of a record from an index on, all of which lie in the slice.
-fn store_inside(reply: &mut [u8], i: usize, r: Record)
-    requires { i + 16 ≤ length reply.old }
-    ensures { reply.new ≡ sets reply.old i (bytes_of r) }
+// Writes a number's four bytes, likewise.
+fn set32(s: &mut [u8], i: usize, v: u32)
+    requires { i + 4 ≤ length s.old }
+    ensures { s.new ≡ store32 s.old i v }
 {
-    set_inside(reply, i, r.kind);
-    set_inside(reply, i + 1, r.flags);
-    set16(reply, i + 2, r.bit);
+    let [b0, b1, b2, b3] = v.to_le_bytes();
+    s[i] = b0;
+    s[i + 1] = b1;
+    s[i + 2] = b2;
+    s[i + 3] = b3;
+}
+
+// Writes a record's 16 bytes into a slot that the reply has. Not by `copy_from_slice`, which tests at run time whether the two overlap.
+pub fn write_record(reply: &mut [u8], s: Slot, r: Record)
+    requires { s.0 * 16 + 16 ≤ length reply.old }
+    ensures { reply.new ≡ sets reply.old (s.0 * 16) (bytes_of r) }
+{
+    let i = (s.0 as usize) * 16;
+    let [bit0, bit1] = r.bit.to_le_bytes();
+    reply[i] = r.kind;
+    reply[i + 1] = r.flags;
+    reply[i + 2] = bit0;
+    reply[i + 3] = bit1;
     set32(reply, i + 4, r.a);
     set32(reply, i + 8, r.b);
     set32(reply, i + 12, r.c);
 }
 
-// Writes a record's 16 bytes into a slot that the reply has.
-pub fn write_record(reply: &mut [u8], s: Slot, r: Record)
-    requires { s.0 * 16 + 16 ≤ length reply.old }
-    ensures { reply.new ≡ sets reply.old (s.0 * 16) (bytes_of r) }
-{
-    store_inside(reply, (s.0 as usize) * 16, r);
-}
-
-// The fields by number: 1 is a, 2 is b, 3 is c.
-pub fn field(r: Record, f: u32) -> u32
-    ensures { result ≡ field_of r f }
-{
-    match f {
-        1 => r.a,
-        2 => r.b,
-        3 => r.c,
-        _ => 0,
-    }
-}
-
-// Whether a field holds a net.
-pub fn is_operand(r: Record, f: u32) -> bool
-    ensures { result ≡ is_operand r f }
-{
-    kinds::is_operand_use(kinds::use_of(kinds::kind_of(r.kind), f))
-}
-
-// Whether the record's level follows from that of the net in a field.
-pub fn is_comb_edge(r: Record, f: u32) -> bool
-    ensures { result ≡ is_comb_edge r f }
-{
-    is_operand(r, f)
-}
-
-fn edge_of(d: Driver) -> Edge
+fn edge_of(d: Driver) -> Option<Slot>
     ensures { result ≡ edge_of d }
 {
     match d {
-        Driver::Const(_) => Edge::Nowhere,
-        Driver::Cell(s) => Edge::To(s),
+        Driver::Const(_) => None,
+        Driver::Cell(s) => Some(s),
     }
 }
 
-// Where the combinational edge of a field leads.
-pub fn edge_at(r: Record, f: u32) -> Edge
-    ensures { result ≡ edge_at r f }
-{
-    if is_comb_edge(r, f) {
-        return edge_of(Net(field(r, f)).as_cell_index());
+impl Record {
+    // What a field holds.
+    #[tactic(auto, unfolding(crate::specs::Operands::field_of))]
+    pub fn field(self, f: Field) -> u32
+        ensures { result ≡ field_of self (field_number f) }
+    {
+        match f {
+            Field::A => self.a,
+            Field::B => self.b,
+            Field::C => self.c,
+        }
     }
-    Edge::Nowhere
+
+    // Whether a field holds a net.
+    #[tactic(auto, unfolding(crate::specs::Operands::is_operand))]
+    pub fn is_operand(self, f: Field) -> bool
+        ensures { result ≡ is_operand self (field_number f) }
+    {
+        kinds::kind_of(self.kind).use_of(f).is_operand()
+    }
+
+    // Whether the record's level follows from that of the net in a field.
+    #[tactic(auto, unfolding(crate::specs::Operands::is_comb_edge))]
+    pub fn is_comb_edge(self, f: Field) -> bool
+        ensures { result ≡ is_comb_edge self (field_number f) }
+    {
+        self.is_operand(f)
+    }
+
+    // Where the combinational edge of a field leads: to a slot, or nowhere for a constant or a field that is no such operand.
+    pub fn edge_at(self, f: Field) -> Option<Slot>
+        ensures { result ≡ edge_at self (field_number f) }
+    {
+        if self.is_comb_edge(f) {
+            edge_of(Net(self.field(f)).as_cell_index())
+        } else {
+            None
+        }
+    }
 }
 
 // The cell of a record. None of an unknown kind gets here; as a buffer of a constant it would read no slot.
-pub fn cell_of(r: Record) -> Cell
-    ensures { result ≡ cell_of r }
-{
-    // This first, so that the kind itself is what the match below jumps by.
-    if !kinds::is_known(r.kind) {
-        return Cell::Buf(Net::ZERO);
-    }
-    match kinds::sort_of(r.kind) {
-        Sort::Unknown => Cell::Buf(Net::ZERO),
-        Sort::Input => Cell::Input(r.a),
-        Sort::Output => Cell::Output(Net(r.a), r.b),
-        Sort::Buf => Cell::Buf(Net(r.a)),
-        Sort::Not => Cell::Not(Net(r.a)),
-        Sort::And => Cell::And(Net(r.a), Net(r.b)),
-        Sort::Or => Cell::Or(Net(r.a), Net(r.b)),
-        Sort::Xor => Cell::Xor(Net(r.a), Net(r.b)),
-        Sort::Mux => Cell::Mux(Net(r.a), Net(r.b), Net(r.c)),
-        Sort::Aig => Cell::Aig(
-            ControlNet::from_net_invert(Net(r.a), r.flags % 2 == 1),
-            ControlNet::from_net_invert(Net(r.b), r.flags / 2 % 2 == 1),
-        ),
+impl From<Record> for Cell {
+    ghost from_gives = { λ r c. c ≡ cell_of r };
+
+    fn from(r: Record) -> Cell {
+        // This first, so that the kind itself is what the match below jumps by.
+        if !kinds::is_known(r.kind) {
+            return Cell::Buf(Net::ZERO);
+        }
+        match kinds::sort_of(r.kind) {
+            None => Cell::Buf(Net::ZERO),
+            Some(Sort::Input) => Cell::Input(r.a),
+            Some(Sort::Output) => Cell::Output(Net(r.a), r.b),
+            Some(Sort::Buf) => Cell::Buf(Net(r.a)),
+            Some(Sort::Not) => Cell::Not(Net(r.a)),
+            Some(Sort::And) => Cell::And(Net(r.a), Net(r.b)),
+            Some(Sort::Or) => Cell::Or(Net(r.a), Net(r.b)),
+            Some(Sort::Xor) => Cell::Xor(Net(r.a), Net(r.b)),
+            Some(Sort::Mux) => Cell::Mux(Net(r.a), Net(r.b), Net(r.c)),
+            Some(Sort::Aig) => Cell::Aig(
+                ControlNet::from_net_invert(Net(r.a), r.flags % 2 == 1),
+                ControlNet::from_net_invert(Net(r.b), r.flags / 2 % 2 == 1),
+            ),
+        }
     }
 }
 
@@ -234,11 +190,11 @@ fn flags_of(p: ControlNet, q: ControlNet) -> u8
     0
 }
 
-fn record_of(kind: u8, flags: u8, bit: u16, a: u32, b: u32, c: u32) -> Record
-    ensures { result ≡ record_of kind flags bit a b c }
+fn record_of(sort: Sort, flags: u8, bit: u16, a: u32, b: u32, c: u32) -> Record
+    ensures { result ≡ record_of (number_of sort) flags bit a b c }
 {
     Record {
-        kind,
+        kind: sort as u8,
         flags,
         bit,
         a,
@@ -247,19 +203,22 @@ fn record_of(kind: u8, flags: u8, bit: u16, a: u32, b: u32, c: u32) -> Record
     }
 }
 
-// The record of a cell that is a given bit of its cell.
-pub fn cell_record(bit: u16, c: Cell) -> Record
-    ensures { result ≡ cell_record bit c }
-{
-    match c {
-        Cell::Input(l) => record_of(kinds::INPUT, 0, bit, l, 0, 0),
-        Cell::Output(x, l) => record_of(kinds::OUTPUT, 0, bit, x.0, l, 0),
-        Cell::Buf(x) => record_of(kinds::BUF, 0, bit, x.0, 0, 0),
-        Cell::Not(x) => record_of(kinds::NOT, 0, bit, x.0, 0, 0),
-        Cell::And(x, y) => record_of(kinds::AND, 0, bit, x.0, y.0, 0),
-        Cell::Or(x, y) => record_of(kinds::OR, 0, bit, x.0, y.0, 0),
-        Cell::Xor(x, y) => record_of(kinds::XOR, 0, bit, x.0, y.0, 0),
-        Cell::Mux(x, y, z) => record_of(kinds::MUX, 0, bit, x.0, y.0, z.0),
-        Cell::Aig(p, q) => record_of(kinds::AIG, flags_of(p, q), bit, p.net().0, q.net().0, 0),
+impl Cell {
+    // The record of a cell that is a given bit of its cell.
+    #[tactic(auto, unfolding(crate::specs::Records::cell_record))]
+    pub fn record(self, bit: u16) -> Record
+        ensures { result ≡ cell_record bit self }
+    {
+        match self {
+            Cell::Input(l) => record_of(Sort::Input, 0, bit, l, 0, 0),
+            Cell::Output(x, l) => record_of(Sort::Output, 0, bit, x.0, l, 0),
+            Cell::Buf(x) => record_of(Sort::Buf, 0, bit, x.0, 0, 0),
+            Cell::Not(x) => record_of(Sort::Not, 0, bit, x.0, 0, 0),
+            Cell::And(x, y) => record_of(Sort::And, 0, bit, x.0, y.0, 0),
+            Cell::Or(x, y) => record_of(Sort::Or, 0, bit, x.0, y.0, 0),
+            Cell::Xor(x, y) => record_of(Sort::Xor, 0, bit, x.0, y.0, 0),
+            Cell::Mux(x, y, z) => record_of(Sort::Mux, 0, bit, x.0, y.0, z.0),
+            Cell::Aig(p, q) => record_of(Sort::Aig, flags_of(p, q), bit, p.net().0, q.net().0, 0),
+        }
     }
 }

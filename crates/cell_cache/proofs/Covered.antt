@@ -9,12 +9,9 @@ use Rattle.value.specs.declared.Net.{Net}
 use Rattle.cell.specs.declared.Cell.{Cell}
 use Rattle.netlist.specs.Shape.{visit, visit_mut, has_effects}
 use Rattle.netlist.specs.Netlist.{cell_in}
-use Rattle.design.specs.declared.Source.{Source}
-use Rattle.design.specs.declared.Source.TheVariants.{Opaque, Known}
-use Rattle.numberer.specs.declared.Found.{Found}
-use Rattle.numberer.specs.declared.Found.TheVariants.{Nothing, At}
+use Rattle.std.specs.Prelude.{None, Some, Option}
 use Rattle.numberer.specs.Numberer.{Entry, seek}
-use Rattle.design.specs.Queue.{net_in, unchanged, map_net_new}
+use Rattle.design.specs.Queue.{net_in, unchanged, map_net_new, Source}
 use Rattle.rewrite.specs.Rewriter.{Rewriter, begun, Lookup, find_cell, entered, finished}
 use Rattle.rewrite.specs.Rewrite.{Result, none, cell, value, spent, Added, at, unadded, entry, asked, process_cell, add_cell, Run, ran, stuck, bit_done, cell_done, run_item}
 use Rattle.basics.specs.Lists.{All}
@@ -29,23 +26,23 @@ use Rattle.cell_cache.specs.Exchanged.{process_by, process_cell_by}
 use Rattle.cell_cache.proofs.Plain.{process_cell-plain}
 use Rattle.cell_cache.proofs.Life.{cache-begins, cache-stays, cache-inserts}
 
-neither : (x y : Found) → else_found x y ≡ Nothing → (x ≡ Nothing) × (y ≡ Nothing)
-neither (At m) y e = let z : ◌≡◌ {A = ℕ} 0 1 = cc in absurd (omega arith)
-neither Nothing y e = (refl, e)
+neither : (x y : Option Net) → else_found x y ≡ None → (x ≡ None) × (y ≡ None)
+neither (Some m) y e = let z : ◌≡◌ {A = ℕ} 0 1 = cc in absurd (omega arith)
+neither None y e = (refl, e)
 
 -- one more entry, in one cache and in both
-one_less : (es : List Entry) (e : Entry) (c : Cell) → seek (es ++ (e ∷ [])) c ≡ Nothing → (seek es c ≡ Nothing) × (seek (e ∷ []) c ≡ Nothing)
+one_less : (es : List Entry) (e : Entry) (c : Cell) → seek (es ++ (e ∷ [])) c ≡ None → (seek es c ≡ None) × (seek (e ∷ []) c ≡ None)
 one_less es e c h = neither (seek es c) (seek (e ∷ []) c) (sym (seek-append es (e ∷ []) c) ∙ h)
 
-both-more : (es fs : List Entry) (e : Entry) (c : Cell) → (seek es c ≡ Nothing → seek fs c ≡ Nothing) → seek (es ++ (e ∷ [])) c ≡ Nothing → seek (fs ++ (e ∷ [])) c ≡ Nothing
+both-more : (es fs : List Entry) (e : Entry) (c : Cell) → (seek es c ≡ None → seek fs c ≡ None) → seek (es ++ (e ∷ [])) c ≡ None → seek (fs ++ (e ∷ [])) c ≡ None
 both-more es fs e c f h =
-    let k : (seek es c ≡ Nothing) × (seek (e ∷ []) c ≡ Nothing) = one_less es e c h in
-    seek-append fs (e ∷ []) c ∙ ap (λ (x : Found). else_found x (seek (e ∷ []) c)) (f k.0) ∙ k.1
+    let k : (seek es c ≡ None) × (seek (e ∷ []) c ≡ None) = one_less es e c h in
+    seek-append fs (e ∷ []) c ∙ ap (λ (x : Option Net). else_found x (seek (e ∷ []) c)) (f k.0) ∙ k.1
 
 -- n is the number of slots before rewriting
 pub record Covered (n : ℕ) (r : Rewriter) : Type 0 where
   pub slots : n ≤ length r.design.cells
-  pub covers : (c : Cell) → seek r.cache c ≡ Nothing → seek (cell_cache n r.design.cells) c ≡ Nothing
+  pub covers : (c : Cell) → seek r.cache c ≡ None → seek (cell_cache n r.design.cells) c ≡ None
 
 -- gates, whatever they read
 abbrev pub Any : Net → Type 0
@@ -58,8 +55,8 @@ any-nets : (ms : List Net) → All Any ms
 any-nets = all-every Any (λ m. tt)
 
 any-source : (src : Source) → SourceNets Any src
-any-source Opaque = tt
-any-source (Known c) = any-nets (visit c)
+any-source None = tt
+any-source (Some c) = any-nets (visit c)
 
 pub gate : (c : Cell) → has_effects c ≡ false → Gate c
 gate c e = (any-nets (visit c), e)
@@ -123,9 +120,9 @@ module _ (look : Lookup) (n : ℕ) where
   kept-covered c (value m r) h = h.0
   kept-covered c (spent r) h = h
 
-  asked-covered : (r : Rewriter) (f : Found) → Covered n r → CoveredResult (asked r f)
-  asked-covered r (At m) p = p
-  asked-covered r Nothing p = p
+  asked-covered : (r : Rewriter) (f : Option Net) → Covered n r → CoveredResult (asked r f)
+  asked-covered r (Some m) p = p
+  asked-covered r None p = p
 
   process_cell-covered : (r : Rewriter) (c : Cell) → Covered n r → CoveredResult (process_cell look r c)
   process_cell-covered r c p = either (has_effects c)

@@ -1,7 +1,7 @@
 -- The cell cache of a run, computed by the checker: of two equal xors one is added, for the rewriter's cache answers the second. With the ticket's
 -- slots in the cell cache too, it would answer the first, and none would be added: the equation is no matter of course. So it is where a rule
 -- has given the cell another form before. Assumes nothing.
-use Rattle.normalize.specs.Outcomes.{◌or_else◌}
+use Rattle.normalize.specs.Outcomes.{first_change}
 use mathlib.Core.Path.{◌≡◌, refl}
 use mathlib.Core.List.{List, [], ◌∷◌}
 use Rattle.value.specs.Value.{eq_net, le_net, driver}
@@ -40,7 +40,7 @@ cache_of (ran r) = cell_cache 6 r.design.cells
 cache_of (stuck r) = []
 
 computed : (cache_of (run find_new_cell cs) ≡ (xor, net_in 6) ∷ []) × ((slots_of (with_tickets cs) ≡ 6) × (slots_of (with_tickets turned) ≡ 6))
-unfolding eq_net le_net driver cell_record tabulate visit visit_mut has_effects those joined sources each down walk walk_from bit_deps topo_sort unchanged followed map_net_new find_new_cell eq_record eq_cell seek ◌or_else◌ normalize if_not if_aig if_xor and_xor xor_xor xor_order xor_rule simple_aig_opt stamp find_cell entered finished weight rules process process_cell add_cell run_item run_items run cell_cache add_cell_with_metadata_index process_by process_cell_by add_cell_by run_item_by run_items_by run_by
+unfolding eq_net le_net driver cell_record tabulate visit visit_mut has_effects those joined sources each down walk walk_from bit_deps topo_sort unchanged followed map_net_new find_new_cell eq_record eq_cell seek first_change normalize if_not if_aig if_xor and_xor xor_xor xor_order xor_rule simple_aig_opt stamp find_cell entered finished weight rules process process_cell add_cell run_item run_items run cell_cache add_cell_with_metadata_index process_by process_cell_by add_cell_by run_item_by run_items_by run_by
 computed = (refl, (refl, refl))
 
 pub one-added : cache_of (run find_new_cell cs) ≡ (xor, net_in 6) ∷ []

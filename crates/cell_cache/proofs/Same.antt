@@ -13,8 +13,9 @@ use Rattle.netlist.specs.Netlist.{Netlist, cell_in}
 use Rattle.order.specs.Orders.{topo_sort}
 use Rattle.design.specs.Queue.{net_in, map_net_new}
 use Rattle.design.specs.Queue as queue
-use Rattle.normalize.specs.declared.Outcome.{Outcome}
-use Rattle.normalize.specs.declared.Outcome.TheVariants.{None, Value, Form, Add, NotOf, AddNotOf}
+use Rattle.std.specs.Prelude.{None, Some}
+use Rattle.normalize.specs.Outcomes.{Outcome}
+use Rattle.normalize.specs.declared.Change.TheVariants.{Value, Form, Add, NotOf, AddNotOf}
 use Rattle.rewrite.specs.Rewriter.{Rewriter, begun, Lookup, entered}
 use Rattle.rewrite.specs.Rewrite.{rules, Result, none, cell, value, spent, Added, at, unadded, as_value, as_not, add_not, perform, entry, enter, replacing, go_on, turn, process, process_cell, add_cell, Run, ran, stuck, bit_done, cell_done, run_item, and_then, run_items, run, compacted, rewrite}
 use Rattle.basics.specs.Lists.{has}
@@ -73,11 +74,11 @@ module _ (look : Lookup) (n : ℕ) where
 
     perform-same : (r : Rewriter) (o : Outcome) → Covered n r → GoodOutcome Gate Any o → perform adder_by r o ≡ perform adder r o
     perform-same r None p g = refl
-    perform-same r (Value m) p g = refl
-    perform-same r (Form c) p g = refl
-    perform-same r (Add c) p g = ap as_value (adder-same r c p g)
-    perform-same r (NotOf c) p g = ap as_not (adder-same r c p g)
-    perform-same r (AddNotOf c) p g = ap (add_not adder_by) (adder-same r c p g) ∙ not_same (adder r c) (adder-kept r c p g)
+    perform-same r (Some (Value m)) p g = refl
+    perform-same r (Some (Form c)) p g = refl
+    perform-same r (Some (Add c)) p g = ap as_value (adder-same r c p g)
+    perform-same r (Some (NotOf c)) p g = ap as_not (adder-same r c p g)
+    perform-same r (Some (AddNotOf c)) p g = ap (add_not adder_by) (adder-same r c p g) ∙ not_same (adder r c) (adder-kept r c p g)
 
     go_on-same : (c : Cell) (x : Result) → Passed look n c x → go_on again_by c x ≡ go_on again c x
     go_on-same c (none r) h = refl

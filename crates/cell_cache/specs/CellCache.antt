@@ -6,8 +6,7 @@ use Rattle.cell.specs.declared.Cell.{Cell}
 use Rattle.basics.specs.Lists.{tabulate, those}
 use Rattle.netlist.specs.Shape.{has_effects}
 use Rattle.netlist.specs.Netlist.{cell_in}
-use Rattle.numberer.specs.declared.Found.{Found}
-use Rattle.numberer.specs.declared.Found.TheVariants.{Nothing, At}
+use Rattle.std.specs.Prelude.{Option, Some, None}
 use Rattle.numberer.specs.Numberer.{Entry, seek}
 use Rattle.design.specs.Queue.{net_in, add_cell}
 use Rattle.rewrite.specs.Rewriter.{Rewriter}
@@ -30,9 +29,9 @@ cell_cache n cs = without_effects (tabulate (added_at n cs) (length cs - n))
 
 -- `Design::add_cell_with_metadata_index` of a cell of one bit, by what the cell cache has for it. After it, in `Rewriter::add_cell_meta_output`,
 -- `processed.insert`, which changes nothing for the net of a cell that was added before, and `cache.insert`
-abbrev pub added_by : Rewriter → Cell → Found → Added
-added_by r c (At m) = at m (record { design = r.design; cache = inserted c m r.cache; stamps = r.stamps; clock = r.clock })
-added_by r c Nothing =
+abbrev pub added_by : Rewriter → Cell → Option Net → Added
+added_by r c (Some m) = at m (record { design = r.design; cache = inserted c m r.cache; stamps = r.stamps; clock = r.clock })
+added_by r c None =
     let m = net_in (length r.design.cells) in
     at m (record {
       design = add_cell r.design c;

@@ -129,7 +129,6 @@ module _ (n count : ℕ) (ws : List ℕ) (s x : ℕ) (e : x ≡ get_or (bits_in 
 
 -- the sources below s were put
 pub record Putting (n : ℕ) (ws₁ ws : List ℕ) (count s : ℕ) : Type 0 where
-  pub upto : s ≤ n
   pub few : n ≤ 512
   pub long : 16384 ≤ length ws
   pub said : walk_of n count ws ≡ each emit (starts_that is_source (records_in n ws₁) (slots s)) (walk_of n 0 ws₁)
@@ -140,7 +139,6 @@ pub record Putting (n : ℕ) (ws₁ ws : List ℕ) (count s : ℕ) : Type 0 wher
 pub putting-begins : (n : ℕ) (ws ws₁ : List ℕ) → Clears n ws ws₁ → 16384 ≤ length ws → n ≤ 512 → Putting n ws₁ ws₁ 0 0
 unfolding tabulate starts_that those each visited_in
 putting-begins n ws ws₁ v l f = record {
-  upto = omega arith;
   few = f;
   long = omega (arith, v.frame.same);
   said = refl;
@@ -158,7 +156,6 @@ module _ (n : ℕ) (ws₁ ws : List ℕ) (count s : ℕ) (g : Putting n ws₁ ws
 
   pub putting-more : s < n → (ws' : List ℕ) (r : ℕ) → Emits (starts_that is_source (records_in n ws) (s ∷ [])) s n count ws ws' r → Putting n ws₁ ws' r (s + 1)
   putting-more l ws' r v = let few : n ≤ 512 = g.few in let rs : List Record = records_in n ws₁ in record {
-    upto = omega arith;
     few = few;
     long = let h : 16384 ≤ length ws = g.long in omega (arith, v.frame.same);
     said = v.said
@@ -172,8 +169,8 @@ module _ (n : ℕ) (ws₁ ws : List ℕ) (count s : ℕ) (g : Putting n ws₁ ws
     frame = within-then visited_at replaced_at ws₁ ws ws' g.frame v.frame;
   }
 
-  pub putting-ends : n ≤ s → (ws₀ : List ℕ) → Clears n ws₀ ws₁ → PutsSources n ws₀ ws count
-  putting-ends l ws₀ v = let few : n ≤ 512 = g.few in let q : s ≡ n = omega (arith, g.upto) in record {
+  pub putting-ends : s ≤ n → n ≤ s → (ws₀ : List ℕ) → Clears n ws₀ ws₁ → PutsSources n ws₀ ws count
+  putting-ends m l ws₀ v = let few : n ≤ 512 = g.few in let q : s ≡ n = omega arith in record {
     said = g.said ∙ ap (λ (m : ℕ). each emit (starts_that is_source (records_in n ws₁) (slots m)) (walk_of n 0 ws₁)) q
         ∙ ap (λ (us : List Record). each emit (starts_that is_source us (slots n)) (walk_of n 0 ws₁)) (cleared-records n ws₀ ws₁ v (omega arith))
         ∙ ap (each emit (starts_that is_source (records_in n ws₀) (slots n))) (cleared-walk n ws₀ ws₁ v);
@@ -207,20 +204,18 @@ module _ (n count : ℕ) (ws : List ℕ) (s x : ℕ) (e : x ≡ get_or (bits_in 
 
 -- the cells below s that pass a test were walked to
 pub record Going (q : Cell → Bool) (n begin : ℕ) (ws₀ ws : List ℕ) (count s : ℕ) : Type 0 where
-  pub upto : s ≤ n
   pub begun : Ready n begin ws₀
   pub ready : Ready n count ws
   pub walked : Walks cells_by (starts_that q (records_in n ws₀) (slots s)) n begin ws₀ ws count
 
 pub going-begins : (q : Cell → Bool) (n begin : ℕ) (ws : List ℕ) → Ready n begin ws → Going q n begin ws ws begin 0
 unfolding tabulate starts_that those
-going-begins q n begin ws g = record { upto = omega arith; begun = g; ready = g; walked = walks-none cells_by n begin ws }
+going-begins q n begin ws g = record { begun = g; ready = g; walked = walks-none cells_by n begin ws }
 
 module _ (q : Cell → Bool) (n begin : ℕ) (ws₀ ws : List ℕ) (count s : ℕ) (g : Going q n begin ws₀ ws count s) where
   pub going_more : s < n → (ws' : List ℕ) (r : ℕ) → Walks cells_by (starts_that q (records_in n ws) (s ∷ [])) n count ws ws' r
       → Going q n begin ws₀ ws' r (s + 1)
   going_more l ws' r v = let rs : List Record = records_in n ws₀ in record {
-    upto = omega arith;
     begun = g.begun;
     ready = walks-ready cells_by n _ count ws ws' r v g.ready;
     walked = subst (λ (xs : List ℕ). Walks cells_by xs n begin ws₀ ws' r) (sym (starts_more q rs s))
@@ -229,9 +224,9 @@ module _ (q : Cell → Bool) (n begin : ℕ) (ws₀ ws : List ℕ) (count s : �
         (walks-records cells_by n (starts_that q rs (slots s)) begin ws₀ ws count g.walked g.begun) v));
   }
 
-  pub going-ends : n ≤ s → Walks cells_by (starts_that q (records_in n ws₀) (slots n)) n begin ws₀ ws count
-  going-ends l =
-      let e : s ≡ n = omega (arith, g.upto) in
+  pub going-ends : s ≤ n → n ≤ s → Walks cells_by (starts_that q (records_in n ws₀) (slots n)) n begin ws₀ ws count
+  going-ends m l =
+      let e : s ≡ n = omega arith in
       subst (λ (m : ℕ). Walks cells_by (starts_that q (records_in n ws₀) (slots m)) n begin ws₀ ws count) e g.walked
 
 -- an output, or none
@@ -258,7 +253,6 @@ module _ (n count : ℕ) (ws : List ℕ) (s x : ℕ) (e : x ≡ get_or (bits_in 
 
 -- the outputs below s were put
 pub record Appending (n cells : ℕ) (ws₀ ws : List ℕ) (count s : ℕ) : Type 0 where
-  pub upto : s ≤ n
   pub long : 16384 ≤ length ws
   pub room : cells + n ≤ 1024
   pub appended : Appends (starts_that is_output (records_in n ws₀) (slots s)) cells ws₀ ws count
@@ -269,7 +263,7 @@ order-length count ws = tabulate-length _ count
 
 pub appending-begins : (n cells : ℕ) (ws : List ℕ) → 16384 ≤ length ws → cells + n ≤ 1024 → Appending n cells ws ws cells 0
 unfolding tabulate starts_that those
-appending-begins n cells ws l f = record { upto = omega arith; long = l; room = f; appended = appends-none [] cells ws refl }
+appending-begins n cells ws l f = record { long = l; room = f; appended = appends-none [] cells ws refl }
 
 appended-most : (rs : List Record) (cells : ℕ) (ws₀ ws : List ℕ) (count m : ℕ) → Appends (starts_that is_output rs (slots m)) cells ws₀ ws count → count ≤ cells + m
 appended-most rs cells ws₀ ws count m v =
@@ -286,7 +280,6 @@ module _ (n cells : ℕ) (ws₀ ws : List ℕ) (count s : ℕ) (g : Appending n 
 
   pub appending-more : s < n → (ws' : List ℕ) (r : ℕ) → Appends (starts_that is_output (records_in n ws) (s ∷ [])) count ws ws' r → Appending n cells ws₀ ws' r (s + 1)
   appending-more l ws' r v = let rs : List Record = records_in n ws₀ in record {
-    upto = omega arith;
     long = let h : 16384 ≤ length ws = g.long in omega (arith, v.frame.same);
     room = g.room;
     appended = record {
@@ -300,9 +293,9 @@ module _ (n cells : ℕ) (ws₀ ws : List ℕ) (count s : ℕ) (g : Appending n 
     };
   }
 
-  pub appending-ends : n ≤ s → Appends (starts_that is_output (records_in n ws₀) (slots n)) cells ws₀ ws count
-  appending-ends l =
-      let q : s ≡ n = omega (arith, g.upto) in
+  pub appending-ends : s ≤ n → n ≤ s → Appends (starts_that is_output (records_in n ws₀) (slots n)) cells ws₀ ws count
+  appending-ends m l =
+      let q : s ≡ n = omega arith in
       subst (λ (m : ℕ). Appends (starts_that is_output (records_in n ws₀) (slots m)) cells ws₀ ws count) q g.appended
 
 -- the three parts

@@ -20,7 +20,7 @@ pub fn bit_of(work: &[u32], n: u32, s: Slot) -> u32
     ensures { result ≡ get_or (bits_in (records_in n work.now)) s.0 0 }
 {
     if s.0 < n {
-        return basics::word(work, (s.0 as usize) * 4) / 65536;
+        return basics::get_or(work, (s.0 as usize) * 4, 0) / 65536;
     }
     0
 }
@@ -81,6 +81,7 @@ fn next_dep(work: &[u32], n: u32, s: Slot, from: u32) -> u32
 {
     let mut best = n;
     let mut i = s.0;
+    // No `for` over s.0..n: it asks for the end once more for each bit, and what compact keeps of inputs took 12 % longer to mark.
     loop {
         best = lower_bit(work, n, Slot(i), from, best);
         i += 1;
@@ -101,7 +102,8 @@ pub fn walk_cell(work: &mut [u32], n: u32, s: Slot, count: u32) -> u32
     visit_cell(work, n, s, count)
 }
 
-// Marks a cell, walks to the cells that it reads and puts the cell behind them.
+// Marks a cell, walks to the cells that it reads and puts the cell behind them. `order` has the same over bits: one walk over a trait would
+// call a method that calls it again, and that the borrow checker does not cover.
 #[cycle(cells)]
 fn visit_cell(work: &mut [u32], n: u32, s: Slot, count: u32) -> u32
     requires ready { Ready n count work.old }
@@ -153,10 +155,8 @@ fn put_sources(work: &mut [u32], n: u32) -> u32
 {
     order::clear_marks(work, n);
     let mut count: u32 = 0;
-    let mut s: u32 = 0;
-    while s < n {
+    for s in 0..n {
         count = put_source(work, n, Slot(s), count);
-        s += 1;
     }
     count
 }
@@ -181,10 +181,8 @@ fn walk_starts(work: &mut [u32], n: u32, sources: u32) -> u32
     ensures { Walks cells_by (starts_that not_output (records_in n work.old) (slots n)) n sources work.old work.new result }
 {
     let mut count = sources;
-    let mut s: u32 = 0;
-    while s < n {
+    for s in 0..n {
         count = walk_start(work, n, Slot(s), count);
-        s += 1;
     }
     count
 }
@@ -211,10 +209,8 @@ fn put_outputs(work: &mut [u32], n: u32, cells: u32) -> u32
     ensures { Appends (starts_that is_output (records_in n work.old) (slots n)) cells work.old work.new result }
 {
     let mut count = cells;
-    let mut s: u32 = 0;
-    while s < n {
+    for s in 0..n {
         count = put_output(work, n, Slot(s), count);
-        s += 1;
     }
     count
 }

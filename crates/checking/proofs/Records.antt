@@ -1,5 +1,5 @@
 -- What the tests of one record and the loops over the records show. Assumes nothing.
-use mathlib.Core.Path.{◌≡◌, refl, sym, ap, ap₂, ◌∙◌, subst}
+use mathlib.Core.Path.{◌≡◌, refl, sym, ap, ap₂, ◌∙◌}
 use mathlib.Core.Bool.{Bool, true, false, not, ◌||◌}
 use mathlib.Core.List.{List, [], ◌∷◌, ◌++◌}
 use Prim.Native.Nat.{ℕ, ◌+◌, ◌-◌, ◌/◌, ◌<◌, ◌≤◌}
@@ -8,9 +8,11 @@ use native.Mathlib.Numerals.{add-one}
 use lib.Dec.{eqb}
 use lib.ListN.{length}
 use borrow.Author.Tests.{lt-ltb, le-ltb, ne_eqb}
+use Rattle.std.specs.Prelude.{Ok, Err}
 use Rattle.value.specs.declared.Slot.{Slot}
 use Rattle.value.specs.declared.Driver.{Driver}
 use Rattle.value.specs.declared.Driver.TheVariants as driven
+use Rattle.kinds.specs.declared.Field.TheVariants as field
 use Rattle.cell.specs.declared.Record.{Record}
 use Rattle.kinds.specs.declared.Kind.{Kind}
 use Rattle.value.specs.Value.{net_at, driver}
@@ -22,20 +24,18 @@ use Rattle.kinds.proofs.Laws.{gates-one}
 use Rattle.cell.proofs.Lists.{records-length, records-at}
 use Rattle.refusals.specs.declared.Refusal.{Refusal}
 use Rattle.refusals.specs.declared.Refusal.TheVariants.{UnknownKind, ReservedField, BitOutOfSequence, UndrivenOperand}
-use Rattle.refusals.specs.declared.Verdict.{Verdict}
-use Rattle.refusals.specs.declared.Verdict.TheVariants.{Pass, Refused}
-use Rattle.refusals.specs.Refusals.{first_of, slot_by_slot}
-use Rattle.checking.specs.Checking.{unknown_kind, reserved_field, follows, out_of_sequence, bit_out_of_sequence, undriven, undriven_field, kind_stage, field_stage, bit_stage, kind_stages, field_stages, bit_stages, operand_stages, record_stages, gate_count}
+use Rattle.refusals.specs.Refusals.{first_of, slot_by_slot, Verdict}
+use Rattle.checking.specs.Checking.{unknown_kind, reserved_field, follows, out_of_sequence, bit_out_of_sequence, undriven, undriven_field, kind_stage, field_stage, bit_stage, kind_stages, field_stages, bit_stages, operand_stages, record_stages, record_group, gate_count}
 use Rattle.refusals.proofs.Stages.{first-refuses, slots-more, slots-refused}
 use Rattle.checking.proofs.Groups.{fields-driven, kind-exactly, field-exactly, bit-exactly, operand-exactly, first_field, second-field, third-field, kind-decides, field-decides, bit-decides, operands-decide}
 
 -- an operand that names a slot past the last record, and one that names a record
-module _ (t : List ℕ) (n : ℕ) (d : Driver) (s : Slot) (e : n ≡ length t / 16) (q : d ≡ driven.Cell s) where
-  pub undriven-past : n ≤ s.0 → true ≡ undriven (records_of t) d
-  undriven-past h = rw (q, records-length t, ← e, le-ltb s.0 n h)
+module _ (t : List ℕ) (d : Driver) (s : Slot) (q : d ≡ driven.Cell s) where
+  pub undriven-past : length t / 16 ≤ s.0 → true ≡ undriven (records_of t) d
+  undriven-past h = rw (q, records-length t, le-ltb s.0 (length t / 16) h)
 
-  pub undriven-kind : s.0 < n → (k : ℕ) → k ≡ (record_at t s.0).kind → eqb k 2 ≡ undriven (records_of t) d
-  undriven-kind h k f = rw (q, records-length t, ← e, lt-ltb s.0 n h, f, records-at t s.0 (omega arith))
+  pub undriven-kind : s.0 < length t / 16 → (k : ℕ) → k ≡ (record_at t s.0).kind → eqb k 2 ≡ undriven (records_of t) d
+  undriven-kind h k f = rw (q, records-length t, lt-ltb s.0 (length t / 16) h, f, records-at t s.0 h)
 
 -- the tests that look no further where they are decided
 module _ (s : ℕ) (p r : Record) where
@@ -43,10 +43,10 @@ module _ (s : ℕ) (p r : Record) where
   unfolding out_of_sequence
   bit-first e = rw e
 
-  pub bit-later : (r.bit ≡ 0 → ⊥) → (k : Kind) → k ≡ kind_of r.kind → (w : Bool) → w ≡ follows p r → (x : Bool) → x ≡ eqb s 0 || not w
-      → (y : Bool) → y ≡ k.one_bit || x → y ≡ out_of_sequence s p r
+  pub bit-later : (r.bit ≡ 0 → ⊥) → (k : Kind) → k ≡ kind_of r.kind → (w : Bool) → w ≡ follows p r
+      → k.one_bit || (eqb s 0 || not w) ≡ out_of_sequence s p r
   unfolding out_of_sequence
-  bit-later d k k-is w w-is x x-is y y-is = rw (ne_eqb r.bit 0 d, ← k-is, ← w-is, ← x-is) y-is
+  bit-later d k k-is w w-is = rw (ne_eqb r.bit 0 d, ← k-is, ← w-is)
 
 module _ (rs : List Record) (r : Record) where
   module _ (f : ℕ) (b : Bool) (b-is : b ≡ is_operand r f) where
@@ -59,57 +59,57 @@ module _ (rs : List Record) (r : Record) where
     field-other e = rw (← b-is, e)
 
 -- the groups of a record: the operands field by field, then 4, 5 and 6, behind which the operands are left
-module _ (t : List ℕ) (n : ℕ) (s : Slot) (e : n ≡ length t / 16) (h : s.0 < n) (r : Record) (q : r ≡ record_at t s.0) where
+module _ (t : List ℕ) (s : Slot) (h : s.0 < length t / 16) (r : Record) (q : r ≡ record_at t s.0) where
   abbrev rs : List Record
   rs = records_of t
 
   here : record_in rs s.0 ≡ r
-  here = records-at t s.0 (omega arith) ∙ sym q
+  here = records-at t s.0 h ∙ sym q
 
   -- the operands, field by field
   tested : (f : ℕ) (x b : Bool) → x ≡ undriven_field rs r f → x ≡ b → undriven_field rs (record_in rs s.0) f ≡ b
   tested f x b x-is e = ap (λ (q : Record). undriven_field rs q f) here ∙ sym x-is ∙ e
 
   module _ (x : Bool) (x-is : x ≡ undriven_field (records_of t) r 1) where
-    pub refuses-a : x ≡ true → Refused (UndrivenOperand s 1) ≡ first_of (operand_stages (records_of t) s.0)
+    pub refuses-a : x ≡ true → Err (UndrivenOperand s field.A) ≡ first_of (operand_stages (records_of t) s.0)
     refuses-a e = sym (first_field rs s.0 (tested 1 x true x-is e))
 
     module _ (x-no : x ≡ false) (y : Bool) (y-is : y ≡ undriven_field (records_of t) r 2) where
-      pub refuses-b : y ≡ true → Refused (UndrivenOperand s 2) ≡ first_of (operand_stages (records_of t) s.0)
+      pub refuses-b : y ≡ true → Err (UndrivenOperand s field.B) ≡ first_of (operand_stages (records_of t) s.0)
       refuses-b e = sym (second-field rs s.0 (tested 1 x false x-is x-no) (tested 2 y true y-is e))
 
       module _ (y-no : y ≡ false) (z : Bool) (z-is : z ≡ undriven_field (records_of t) r 3) where
-        pub refuses-c : z ≡ true → Refused (UndrivenOperand s 3) ≡ first_of (operand_stages (records_of t) s.0)
+        pub refuses-c : z ≡ true → Err (UndrivenOperand s field.C) ≡ first_of (operand_stages (records_of t) s.0)
         refuses-c e = sym (third-field rs s.0 (tested 1 x false x-is x-no) (tested 2 y false y-is y-no) (tested 3 z true z-is e))
 
-        pub all-driven : z ≡ false → Pass ≡ first_of (operand_stages (records_of t) s.0)
+        pub all-driven : z ≡ false → Ok tt ≡ first_of (operand_stages (records_of t) s.0)
         all-driven e =
             sym ((operand-exactly rs s.0).1
             (fields-driven rs (record_in rs s.0) (tested 1 x false x-is x-no) (tested 2 y false y-is y-no) (tested 3 z false z-is e)))
 
   module _ (x : Bool) (x-is : x ≡ unknown_kind r) where
-    pub refuses-4 : x ≡ true → Refused (UnknownKind s) ≡ first_of (record_stages (records_of t) s.0)
+    pub refuses-4 : x ≡ true → Err (UnknownKind s) ≡ first_of (record_stages (records_of t) s.0)
     unfolding kind_stages
     refuses-4 f = sym (kind-decides rs s.0 (UnknownKind s) (first-refuses (kind_stage rs s.0) [] (ap unknown_kind here ∙ sym x-is ∙ f)))
 
     module _ (x-no : x ≡ false) (y : Bool) (y-is : y ≡ reserved_field r) where
-      kind-passed : first_of (kind_stages rs s.0) ≡ Pass
+      kind-passed : first_of (kind_stages rs s.0) ≡ Ok tt
       kind-passed = (kind-exactly rs s.0).1 (ap unknown_kind here ∙ sym x-is ∙ x-no)
 
-      pub refuses-5 : y ≡ true → Refused (ReservedField s) ≡ first_of (record_stages (records_of t) s.0)
+      pub refuses-5 : y ≡ true → Err (ReservedField s) ≡ first_of (record_stages (records_of t) s.0)
       unfolding field_stages
       refuses-5 f =
           sym (field-decides rs s.0 (ReservedField s) kind-passed (first-refuses (field_stage rs s.0) [] (ap reserved_field here ∙ sym y-is ∙ f)))
 
       module _ (y-no : y ≡ false) (p : Record) (p-is : p ≡ record_at t (s.0 - 1)) (z : Bool) (z-is : z ≡ out_of_sequence s.0 p r) where
-        fields-passed : first_of (field_stages rs s.0) ≡ Pass
+        fields-passed : first_of (field_stages rs s.0) ≡ Ok tt
         fields-passed = (field-exactly rs s.0).1 (ap reserved_field here ∙ sym y-is ∙ y-no)
 
         in-sequence : bit_out_of_sequence rs s.0 ≡ z
         unfolding bit_out_of_sequence
         in-sequence = ap₂ (out_of_sequence s.0) (records-at t (s.0 - 1) (omega arith) ∙ sym p-is) here ∙ sym z-is
 
-        pub refuses-6 : z ≡ true → Refused (BitOutOfSequence s) ≡ first_of (record_stages (records_of t) s.0)
+        pub refuses-6 : z ≡ true → Err (BitOutOfSequence s) ≡ first_of (record_stages (records_of t) s.0)
         unfolding bit_stages
         refuses-6 f =
             sym (bit-decides rs s.0 (BitOutOfSequence s) kind-passed fields-passed (first-refuses (bit_stage rs s.0) [] (in-sequence ∙ f)))
@@ -118,15 +118,17 @@ module _ (t : List ℕ) (n : ℕ) (s : Slot) (e : n ≡ length t / 16) (h : s.0 
         operands-left z-no v v-is = v-is ∙ sym (operands-decide rs s.0 kind-passed fields-passed ((bit-exactly rs s.0).1 (in-sequence ∙ z-no)))
 
 -- the loop over the records
-module _ (t : List ℕ) (n s : ℕ) (l : s < n) (e : Pass ≡ first_of (slot_by_slot (record_stages (records_of t)) s)) (v : Verdict) (v-is : v ≡ first_of (record_stages (records_of t) s)) where
-  pub decided : (x : Refusal) → v ≡ Refused x → Refused x ≡ first_of (slot_by_slot (record_stages (records_of t)) n)
-  decided x f = slots-refused (record_stages (records_of t)) n s x l e (sym f ∙ v-is)
+module _ (t : List ℕ) (s : ℕ) (e : Ok tt ≡ first_of (slot_by_slot (record_stages (records_of t)) s)) where
+  pub decided : s < length t / 16 → (x : Refusal) → Err x ≡ first_of (record_stages (records_of t) s) → Err x ≡ first_of (record_group (records_of t))
+  unfolding record_group
+  decided l x f = slots-refused (record_stages (records_of t)) (length (records_of t)) s x (omega (arith, records-length t)) e f
 
-  pub passed : v ≡ Pass → Pass ≡ first_of (slot_by_slot (record_stages (records_of t)) (s + 1))
-  passed f = slots-more (record_stages (records_of t)) s e (sym f ∙ v-is)
+  pub passed : Ok tt ≡ first_of (record_stages (records_of t) s) → Ok tt ≡ first_of (slot_by_slot (record_stages (records_of t)) (s + 1))
+  passed f = slots-more (record_stages (records_of t)) s e f
 
-pub all-passed : (t : List ℕ) (n s : ℕ) → s ≤ n → n ≤ s → Pass ≡ first_of (slot_by_slot (record_stages (records_of t)) s) → Pass ≡ first_of (slot_by_slot (record_stages (records_of t)) n)
-all-passed t n s l m e = subst (λ (k : ℕ). Pass ≡ first_of (slot_by_slot (record_stages (records_of t)) k)) (omega arith) e
+  pub all-passed : length t / 16 ≤ s → s ≤ length t / 16 → Ok tt ≡ first_of (record_group (records_of t))
+  unfolding record_group
+  all-passed l m = e ∙ ap (λ (k : ℕ). first_of (slot_by_slot (record_stages (records_of t)) k)) (omega (arith, records-length t))
 
 -- the gate count, a record more each turn
 count-more : (rs : List Record) (r : Record) → gate_count (rs ++ (r ∷ [])) ≡ gate_count rs + (kind_of r.kind).gates
@@ -134,24 +136,22 @@ unfolding gate_count
 count-more [] r = omega arith
 count-more (q ∷ rs) r = ap (λ (k : ℕ). (kind_of q.kind).gates + k) (count-more rs r) ∙ omega arith
 
-pub record Counting (t : List ℕ) (n s sum : ℕ) : Type 0 where
-  pub upto : s ≤ n
-  pub few : sum ≤ s
-  pub counted : sum ≡ gate_count (tabulate (record_at t) s)
+-- the sum over the first s records is their gate count, at most one gate for each
+abbrev pub Counted : List ℕ → ℕ → ℕ → Type 0
+Counted t s sum = (sum ≤ s) × (sum ≡ gate_count (tabulate (record_at t) s))
 
-pub counts-none : (t : List ℕ) (n : ℕ) → Counting t n 0 0
+pub counts-none : (t : List ℕ) → Counted t 0 0
 unfolding tabulate gate_count
-counts-none t n = record { upto = omega arith; few = omega arith; counted = refl }
+counts-none t = (omega arith, refl)
 
-module _ (t : List ℕ) (n s sum : ℕ) (g : Counting t n s sum) where
-  pub counts_all : n ≡ length t / 16 → n ≤ s → sum ≡ gate_count (records_of t)
+module _ (t : List ℕ) (s sum : ℕ) (g : Counted t s sum) where
+  pub counts_all : s ≡ length t / 16 → sum ≡ gate_count (records_of t)
   unfolding records_of
-  counts_all e h = g.counted ∙ ap (λ (k : ℕ). gate_count (tabulate (record_at t) k)) (let u : s ≤ n = g.upto in omega arith)
+  counts_all e = g.1 ∙ ap (λ (k : ℕ). gate_count (tabulate (record_at t) k)) e
 
-  pub counts-more : s < n → (k : ℕ) (y : Kind) → k ≡ (record_at t s).kind → y ≡ kind_of k → Counting t n (s + 1) (sum + y.gates)
+  pub counts-more : (k : ℕ) (y : Kind) → k ≡ (record_at t s).kind → y ≡ kind_of k → Counted t (s + 1) (sum + y.gates)
   unfolding tabulate
-  counts-more h k y e f = record {
-    upto = omega arith;
-    few = let u : sum ≤ s = g.few in omega (arith, gates-one k, ap (λ (x : Kind). x.gates) f);
-    counted = rw (add-one s, count-more) (ap₂ ◌+◌ g.counted (ap (λ (x : Kind). x.gates) (f ∙ ap kind_of e)));
-  }
+  counts-more k y e f = (
+    omega (arith, g.0, gates-one k, ap (λ (x : Kind). x.gates) f),
+    rw (add-one s, count-more) (ap₂ ◌+◌ g.1 (ap (λ (x : Kind). x.gates) (f ∙ ap kind_of e))),
+  )

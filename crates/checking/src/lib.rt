@@ -2,20 +2,20 @@
 #![tactic(auto)]
 
 ghost use Rattle.std.specs.Prelude.{◌≡◌, ◌-◌, ◌/◌, ◌≤◌, ◌<◌, length, drop};
+ghost use Rattle.kinds.specs.Kinds.{field_number};
 ghost use Rattle.cell.specs.Records.{record_at, records_of};
-ghost use Rattle.refusals.specs.Refusals.{first_of, slot_by_slot};
-ghost use Rattle.checking.specs.Checking.{unknown_kind, unused_not_zero, reserved_field, follows as follows_of, out_of_sequence, undriven as undriven_of, undriven_field, operand_stages, record_stages, netlist_stages, check_stages, gate_count};
+ghost use Rattle.refusals.specs.Refusals.{first_of};
+ghost use Rattle.checking.specs.Checking.{unknown_kind, unused_not_zero, reserved_field, follows as follows_of, out_of_sequence, undriven as undriven_of, undriven_field, operand_stages, record_stages, record_group, netlist_stages, check_stages, gate_count};
 
 use cell::Record;
-use kinds::Use;
-use loops::Found;
-use refusals::{Refusal, Verdict};
+use kinds::{Field, Sort, Use};
+use refusals::Refusal;
 use value::{Driver, Net, Slot};
 
 fn unknown_kind(r: Record) -> bool
     ensures { result ≡ unknown_kind r }
 {
-    !kinds::kind_of(r.kind).known
+    !kinds::is_known(r.kind)
 }
 
 fn unused_not_zero(u: Use, x: u32) -> bool
@@ -35,13 +35,8 @@ fn reserved_field(r: Record) -> bool
     let a = k.a;
     let b = k.b;
     let c = k.c;
-    basics::either(
-        unused_not_zero(a, r.a),
-        basics::either(
-            unused_not_zero(b, r.b),
-            basics::either(unused_not_zero(c, r.c), k.flags < r.flags),
-        ),
-    )
+    unused_not_zero(a, r.a)
+        | (unused_not_zero(b, r.b) | (unused_not_zero(c, r.c) | (k.flags < r.flags)))
 }
 
 // Whether p is the bit before r in one cell.
@@ -50,10 +45,7 @@ fn follows(p: Record, r: Record) -> bool
 {
     let next = (p.bit as u32) + 1;
     let common = kinds::kind_of(r.kind).common_a;
-    basics::both(
-        basics::both(p.kind == r.kind, next == (r.bit as u32)),
-        basics::either(!common, p.a == r.a),
-    )
+    (p.kind == r.kind) & (next == (r.bit as u32)) & (!common | (p.a == r.a))
 }
 
 fn out_of_sequence(s: Slot, p: Record, r: Record) -> bool
@@ -63,31 +55,29 @@ fn out_of_sequence(s: Slot, p: Record, r: Record) -> bool
         return false;
     }
     let one_bit = kinds::kind_of(r.kind).one_bit;
-    basics::either(one_bit, basics::either(s.0 == 0, !follows(p, r)))
+    one_bit | ((s.0 == 0) | !follows(p, r))
 }
 
 // A net is no constant and either names no slot of the ticket or names an output's.
-fn undriven(t: &[u8], n: u32, d: Driver) -> bool
-    requires { n ≡ length t.now / 16 }
+fn undriven(t: &[u8], d: Driver) -> bool
     ensures { result ≡ undriven_of (records_of t.now) d }
 {
     match d {
         Driver::Const(_) => false,
         Driver::Cell(s) => {
-            if n <= s.0 {
+            if t.len() / 16 <= s.0 as usize {
                 return true;
             }
-            cell::kind_at(t, s) == kinds::OUTPUT
+            cell::kind_at(t, s) == Sort::Output as u8
         }
     }
 }
 
-fn undriven_field(t: &[u8], n: u32, r: Record, f: u32) -> bool
-    requires { n ≡ length t.now / 16 }
-    ensures { result ≡ undriven_field (records_of t.now) r f }
+fn undriven_field(t: &[u8], r: Record, f: Field) -> bool
+    ensures { result ≡ undriven_field (records_of t.now) r (field_number f) }
 {
-    if cell::is_operand(r, f) {
-        return undriven(t, n, Net(cell::field(r, f)).as_cell_index());
+    if r.is_operand(f) {
+        return undriven(t, Net(r.field(f)).as_cell_index());
     }
     false
 }
@@ -105,106 +95,89 @@ fn record_before(t: &[u8], s: Slot) -> Record
 }
 
 // 7 of one record: the first of its fields that fails.
-fn operand_verdict(t: &[u8], n: u32, s: Slot, r: Record) -> Verdict
-    requires n_value { n ≡ length t.now / 16 }
-    requires s_lt_n { s.0 < n }
+fn operand_verdict(t: &[u8], s: Slot, r: Record) -> Result<(), Refusal>
+    requires s_in_bounds { s.0 < length t.now / 16 }
     requires r_value { r ≡ record_at t.now s.0 }
     ensures { result ≡ first_of (operand_stages (records_of t.now) s.0) }
 {
-    if undriven_field(t, n, r, 1) {
-        return Verdict::Refused(Refusal::UndrivenOperand(s, 1));
+    if undriven_field(t, r, Field::A) {
+        return Err(Refusal::UndrivenOperand(s, Field::A));
     }
-    if undriven_field(t, n, r, 2) {
-        return Verdict::Refused(Refusal::UndrivenOperand(s, 2));
+    if undriven_field(t, r, Field::B) {
+        return Err(Refusal::UndrivenOperand(s, Field::B));
     }
-    if undriven_field(t, n, r, 3) {
-        return Verdict::Refused(Refusal::UndrivenOperand(s, 3));
+    if undriven_field(t, r, Field::C) {
+        return Err(Refusal::UndrivenOperand(s, Field::C));
     }
-    Verdict::Pass
+    Ok(())
 }
 
 // 4 to 7 of one record.
-fn record_verdict(t: &[u8], n: u32, s: Slot) -> Verdict
-    requires n_value { n ≡ length t.now / 16 }
-    requires s_lt_n { s.0 < n }
+fn record_verdict(t: &[u8], s: Slot) -> Result<(), Refusal>
+    requires { s.0 < length t.now / 16 }
     ensures { result ≡ first_of (record_stages (records_of t.now) s.0) }
 {
     let r = cell::record_at(t, s);
     if unknown_kind(r) {
-        return Verdict::Refused(Refusal::UnknownKind(s));
+        return Err(Refusal::UnknownKind(s));
     }
     if reserved_field(r) {
-        return Verdict::Refused(Refusal::ReservedField(s));
+        return Err(Refusal::ReservedField(s));
     }
     if out_of_sequence(s, record_before(t, s), r) {
-        return Verdict::Refused(Refusal::BitOutOfSequence(s));
+        return Err(Refusal::BitOutOfSequence(s));
     }
-    operand_verdict(t, n, s, r)
+    operand_verdict(t, s, r)
 }
 
 // 4 to 7: the lowest faulty record decides.
-fn records_verdict(t: &[u8], n: u32) -> Verdict
-    requires { n ≡ length t.now / 16 }
-    ensures { result ≡ first_of (slot_by_slot (record_stages (records_of t.now)) n) }
+fn records_verdict(t: &[u8]) -> Result<(), Refusal>
+    requires { length t.now / 16 ≤ 512 }
+    ensures { result ≡ first_of (record_group (records_of t.now)) }
 {
-    let mut s: u32 = 0;
-    while s < n {
-        match record_verdict(t, n, Slot(s)) {
-            Verdict::Pass => {}
-            Verdict::Refused(x) => {
-                return Verdict::Refused(x);
-            }
-        }
-        s += 1;
+    for s in 0..(t.len() / 16) as u32 {
+        record_verdict(t, Slot(s))?;
     }
-    Verdict::Pass
+    Ok(())
 }
 
 // 4 to 8.
-fn netlist_verdict(work: &mut [u32], t: &[u8], n: u32) -> Verdict
+fn netlist_verdict(work: &mut [u32], t: &[u8]) -> Result<(), Refusal>
     requires in_bounds { 16384 ≤ length work.old }
-    requires n_value { n ≡ length t.now / 16 }
-    requires n_bound { n ≤ 512 }
+    requires few { length t.now / 16 ≤ 512 }
     ensures value { result ≡ first_of (netlist_stages (records_of t.now)) }
     ensures work_unchanged { drop 16384 work.new ≡ drop 16384 work.old }
 {
-    match records_verdict(t, n) {
-        Verdict::Refused(x) => Verdict::Refused(x),
-        Verdict::Pass => match loops::find_loop(work, t, n) {
-            Found::At(s) => Verdict::Refused(Refusal::Loop(s)),
-            Found::Nothing => Verdict::Pass,
-        },
+    records_verdict(t)?;
+    match loops::find_loop(work, t, (t.len() / 16) as u32) {
+        Some(s) => Err(Refusal::Loop(s)),
+        None => Ok(()),
     }
 }
 
 // 2 to 8, with a work slice that is long enough.
-pub fn verdict_of(work: &mut [u32], t: &[u8]) -> Verdict
+pub fn verdict_of(work: &mut [u32], t: &[u8]) -> Result<(), Refusal>
     requires { 16384 ≤ length work.old }
     ensures value { result ≡ first_of (check_stages (length work.old) t.now) }
     ensures work_unchanged { drop 16384 work.new ≡ drop 16384 work.old }
 {
-    let rest = t.len() % 16;
-    if rest != 0 {
-        return Verdict::Refused(Refusal::PartialRecord);
+    if t.len() % 16 != 0 {
+        return Err(Refusal::PartialRecord);
     }
-    let n = t.len() / 16;
-    if 512 < n {
-        return Verdict::Refused(Refusal::TooManyRecords);
+    if 512 < t.len() / 16 {
+        return Err(Refusal::TooManyRecords);
     }
-    netlist_verdict(work, t, n as u32)
+    netlist_verdict(work, t)
 }
 
-// The gate count of a ticket of n records.
-pub fn gate_count(t: &[u8], n: u32) -> u32
-    requires n_value { n ≡ length t.now / 16 }
-    requires n_bound { n ≤ 512 }
+// The gate count of a ticket.
+pub fn gate_count(t: &[u8]) -> u32
+    requires { length t.now / 16 ≤ 512 }
     ensures { result ≡ gate_count (records_of t.now) }
 {
-    let mut s: u32 = 0;
-    let mut sum: u32 = 0;
-    while s < n {
+    let mut sum = 0;
+    for s in 0..(t.len() / 16) as u32 {
         sum += kinds::kind_of(cell::kind_at(t, Slot(s))).gates;
-        s += 1;
     }
     sum
 }

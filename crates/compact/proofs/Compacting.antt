@@ -97,13 +97,12 @@ module _ (n : ℕ) (ws : List ℕ) (s : ℕ) (b : Bool) (b-is : b ≡ kept_at n 
 
 -- the loop of `compact`
 pub record Writing (n : ℕ) (ws reply₀ reply : List ℕ) (s : ℕ) : Type 0 where
-  pub upto : s ≤ n
   pub same : length reply ≡ length reply₀
   pub written : reply ≡ sets reply₀ 0 (ticket_of (kept_records n ws s))
 
 pub writing-none : (n : ℕ) (ws reply : List ℕ) → Writing n ws reply reply 0
 unfolding kept_slots tabulate those ticket_of joined
-writing-none n ws reply = record { upto = omega arith; same = refl; written = refl }
+writing-none n ws reply = record { same = refl; written = refl }
 
 module _ (n : ℕ) (ws : List ℕ) (s : ℕ) where
   one-record : (b : Bool) → ticket_of (map (renumbered_record n ws) (cond b (s ∷ []) [])) ≡ cond b (bytes_of (renumbered_record n ws s)) []
@@ -132,7 +131,6 @@ module _ (n : ℕ) (ws : List ℕ) (s : ℕ) where
 
     pub writing_more : s < n → (reply' : List ℕ) → reply' ≡ sets reply (kept_in n ws s * 16) (kept_bytes n ws s) → Writing n ws reply₀ reply' (s + 1)
     writing_more l reply' f = record {
-      upto = omega arith;
       same = ap length f ∙ length-sets reply (kept_in n ws s * 16) (kept_bytes n ws s) ∙ g.same;
       written =
           let so_far : List ℕ = ticket_of (kept_records n ws s) in
@@ -141,7 +139,7 @@ module _ (n : ℕ) (ws : List ℕ) (s : ℕ) where
           ∙ sym (ap (sets reply₀ 0) bytes-more ∙ sets-append reply₀ 0 so_far (kept_bytes n ws s)));
     }
 
-    pub writing-all : n ≤ s → marks_in visited_at n ws ≡ keep (netlist_in n ws) → reply ≡ sets reply₀ 0 (ticket_of (encode (compact (netlist_in n ws))))
-    writing-all h kept =
-        g.written ∙ ap (λ (k : ℕ). sets reply₀ 0 (ticket_of (kept_records n ws k))) (let e : s ≡ n = let u : s ≤ n = g.upto in omega arith in e)
+    pub writing-all : s ≤ n → n ≤ s → marks_in visited_at n ws ≡ keep (netlist_in n ws) → reply ≡ sets reply₀ 0 (ticket_of (encode (compact (netlist_in n ws))))
+    writing-all m h kept =
+        g.written ∙ ap (λ (k : ℕ). sets reply₀ 0 (ticket_of (kept_records n ws k))) (let e : s ≡ n = omega arith in e)
         ∙ ap (λ (rs : List Record). sets reply₀ 0 (ticket_of rs)) (sym (compact-records n ws kept))

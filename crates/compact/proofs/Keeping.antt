@@ -53,7 +53,6 @@ module _ (n count : ℕ) (ws : List ℕ) (s : ℕ) (b : Bool) (b-is : b ≡ is_r
 
 -- slot after slot, from the words with no mark on
 pub record Keeping (n : ℕ) (ws₁ ws : List ℕ) (count s : ℕ) : Type 0 where
-  pub upto : s ≤ n
   pub begun : Ready n 0 ws₁
   pub ready : Ready n count ws
   pub walked : Walks cells_by (those (is_root ws₁) (slots s)) n 0 ws₁ ws count
@@ -61,7 +60,6 @@ pub record Keeping (n : ℕ) (ws₁ ws : List ℕ) (count s : ℕ) : Type 0 wher
 pub keeping-begins : (n : ℕ) (ws ws₁ : List ℕ) → Clears n ws ws₁ → 16384 ≤ length ws → n ≤ 1024 → Keeping n ws₁ ws₁ 0 0
 unfolding tabulate those
 keeping-begins n ws ws₁ v l f = record {
-  upto = omega arith;
   begun = cleared-ready n ws ws₁ v l f;
   ready = cleared-ready n ws ws₁ v l f;
   walked = walks-none cells_by n 0 ws₁;
@@ -75,7 +73,6 @@ module _ (n : ℕ) (ws₁ ws : List ℕ) (count s : ℕ) (g : Keeping n ws₁ ws
   pub keeping-more : s < n → (ws' : List ℕ) (r : ℕ) → Walks cells_by (root_at ws s) n count ws ws' r → Keeping n ws₁ ws' r (s + 1)
   unfolding tabulate those root_at
   keeping-more l ws' r v = record {
-    upto = omega arith;
     begun = g.begun;
     ready = walks-ready cells_by n (root_at ws s) count ws ws' r v g.ready;
     walked =
@@ -85,11 +82,11 @@ module _ (n : ℕ) (ws₁ ws : List ℕ) (count s : ℕ) (g : Keeping n ws₁ ws
         (walks-then cells_by n (those (is_root ws₁) (slots s)) 0 ws₁ ws count g.walked g.begun (root_at ws s) ws' r v));
   }
 
-  pub keeping-ends : n ≤ s → (ws₀ : List ℕ) → Clears n ws₀ ws₁ → Marked n ws₀ ws
+  pub keeping-ends : s ≤ n → n ≤ s → (ws₀ : List ℕ) → Clears n ws₀ ws₁ → Marked n ws₀ ws
   unfolding walk_of
-  keeping-ends l ws₀ v =
+  keeping-ends m l ws₀ v =
       let few : n ≤ 1024 = g.ready.few in
-      let q : s ≡ n = let u : s ≤ n = g.upto in omega arith in
+      let q : s ≡ n = omega arith in
       let w : Walks cells_by (those (is_root ws₁) (slots n)) n 0 ws₁ ws count = subst (λ (k : ℕ). Walks cells_by (those (is_root ws₁) (slots k)) n 0 ws₁ ws count) q g.walked in
       let frame : Within visited_at replaced_at ws₀ ws = cleared-then n ws₀ ws₁ v ws w.frame in
       let same : records_in n ws ≡ records_in n ws₀ = records-kept visited_at replaced_at ws₀ ws frame n (omega arith) in

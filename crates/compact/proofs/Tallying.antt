@@ -15,7 +15,7 @@ use Rattle.netlist.specs.Netlist.{netlist_of}
 use Rattle.netlist.proofs.Frames.{within_none, within-then, within_wider, within-set, records-kept, marks-kept}
 use Rattle.compact.specs.Compact.{keep, is_kept}
 use Rattle.compact.specs.inner.Words.{kept_at, tally, tally_in, tally_word, Marked, Tallies, Keeps}
-use Rattle.compact.proofs.Tally.{tallied-count, at_most_one, kept-few}
+use Rattle.compact.proofs.Tally.{at_most_one}
 
 -- tallies change neither records nor marks
 module _ (n : ℕ) (few : n ≤ 1024) (ws ws' : List ℕ) (frame : Within order_at replaced_at ws ws') where
@@ -36,47 +36,32 @@ module _ (n : ℕ) (few : n ≤ 1024) (ws ws' : List ℕ) (frame : Within order_
 
 -- slot after slot
 pub record Tallying (n : ℕ) (ws₀ ws : List ℕ) (t s : ℕ) : Type 0 where
-  pub upto : s ≤ n
   pub few : n ≤ 1024
   pub long : 16384 ≤ length ws₀
   pub number : t ≡ tally_in n ws₀ s
+  pub most : t ≤ s
   pub done : (u : ℕ) → u < s → get_or ws (order_at + u) 0 ≡ tally_word n ws₀ u
   pub frame : Within order_at replaced_at ws₀ ws
 
 pub tallying-none : (n : ℕ) (ws : List ℕ) → n ≤ 1024 → 16384 ≤ length ws → Tallying n ws ws 0 0
 unfolding tally
 tallying-none n ws few long = record {
-  upto = omega arith;
   few = few;
   long = long;
   number = refl;
+  most = omega arith;
   done = λ u l. absurd (omega arith);
   frame = within_none order_at replaced_at ws;
 }
 
 module _ (n : ℕ) (ws₀ ws : List ℕ) (t s : ℕ) (g : Tallying n ws₀ ws t s) where
-  so-far-few : t ≤ 1024
-  so-far-few =
-      let few : n ≤ 1024 = g.few in
-      let upto : s ≤ n = g.upto in
-      omega (arith, g.number, tallied-count n ws₀ s, kept-few n ws₀ s)
-
-  pub twice-fits : 2 * t < 4294967296
-  twice-fits = omega (arith, so-far-few)
-
-  pub word_fits : (b : Bool) (k : ℕ) → k ≡ cond b 1 0 → 2 * t + k < 4294967296
-  word_fits b k f = omega (arith, so-far-few, f, at_most_one b)
-
-  pub next_fits : (b : Bool) (k : ℕ) → k ≡ cond b 1 0 → t + k < 4294967296
-  next_fits b k f = omega (arith, word_fits b k f)
-
   pub tallying-more : s < n → (b : Bool) → b ≡ kept_at n ws s → (k : ℕ) → k ≡ cond b 1 0 → (ws' : List ℕ) → ws' ≡ set ws (order_at + s) (2 * t + k) → Tallying n ws₀ ws' (t + k) (s + 1)
   unfolding tally
   tallying-more l b e k f ws' h = record {
-    upto = omega arith;
     few = g.few;
     long = g.long;
     number = rw (add-one s) (ap₂ ◌+◌ g.number kept_here);
+    most = omega (arith, g.most, f, at_most_one b);
     done = λ u m. ap (λ (vs : List ℕ). get_or vs (order_at + u) 0) h ∙ go u m (dec_lt u s);
     frame =
         let few : n ≤ 1024 = g.few in
@@ -99,14 +84,14 @@ module _ (n : ℕ) (ws₀ ws : List ℕ) (t s : ℕ) (g : Tallying n ws₀ ws t 
           let r : s ≡ u = omega arith in
           subst (λ (v : ℕ). get_or (set ws (order_at + s) (2 * t + k)) (order_at + v) 0 ≡ tally_word n ws₀ v) r here
 
-  pub tallying-all : n ≤ s → Tallies n t ws₀ ws
-  tallying-all h = record {
+  pub tallying-all : s ≤ n → n ≤ s → Tallies n t ws₀ ws
+  tallying-all m h = record {
     tallied = record {
       long = let long : 16384 ≤ length ws₀ = g.long in omega (arith, g.frame.same);
       few = g.few;
       each = λ u l. g.done u (omega arith) ∙ sym (same_word n g.few ws₀ ws g.frame u);
       all =
-          let e : s ≡ n = let u : s ≤ n = g.upto in omega arith in
+          let e : s ≡ n = omega arith in
           g.number ∙ sym (same-tally n g.few ws₀ ws g.frame s) ∙ ap (tally_in n ws) e;
     };
     frame = g.frame;

@@ -12,7 +12,7 @@ ghost use Rattle.design.specs.inner.Words.{netlist_in};
 ghost use Rattle.compact.specs.Compact.{keep, compact};
 ghost use Rattle.compact.specs.inner.Words.{renumbered_in, is_root, root_at, Marked, Tallied, Tallies, Keeps, kept_at, kept_in, kept_bytes};
 
-use cell::Record;
+use cell::{Cell, Record};
 use netlist::{area, fields};
 use value::{Driver, Net, Slot};
 
@@ -21,7 +21,7 @@ fn is_root(work: &[u32], s: Slot) -> bool
     ensures { result ≡ is_root work.now s.0 }
 {
     let r = netlist::record_in(work, s);
-    basics::both(r.bit == 0, netlist::has_effects(cell::cell_of(r)))
+    (r.bit == 0) & netlist::has_effects(Cell::from(r))
 }
 
 // Marks what is reached from a slot, if it is a root.
@@ -43,10 +43,8 @@ fn mark_kept(work: &mut [u32], n: u32)
 {
     order::clear_marks(work, n);
     let mut count: u32 = 0;
-    let mut s: u32 = 0;
-    while s < n {
+    for s in 0..n {
         count = keep_from(work, n, Slot(s), count);
-        s += 1;
     }
 }
 
@@ -56,7 +54,7 @@ fn is_marked(work: &[u32], n: u32, s: Slot) -> bool
     ensures { result ≡ kept_at n work.now s.0 }
 {
     let start = cell_order::start_of(work, n, s);
-    basics::word(work, area::VISITED + (start as usize)) != 0
+    basics::get_or(work, area::VISITED + (start as usize), 0) != 0
 }
 
 // Goes over the slots once and keeps the tally of those that are kept. A slot's word is twice the tally before it, and one more if it is kept
@@ -67,13 +65,11 @@ fn tally_kept(work: &mut [u32], n: u32) -> u32
     ensures { Tallies n result work.old work.new }
 {
     let mut tally: u32 = 0;
-    let mut s: u32 = 0;
-    while s < n {
-        let kept = basics::pick32(is_marked(work, n, Slot(s)), 1, 0);
+    for s in 0..n {
+        let kept = basics::pick(is_marked(work, n, Slot(s)), 1, 0);
         let next = tally + kept;
         basics::put(work, area::ORDER + (s as usize), 2 * tally + kept);
         tally = next;
-        s += 1;
     }
     tally
 }
@@ -95,7 +91,7 @@ fn tally_at(work: &[u32], n: u32, total: u32, x: Slot) -> u32
     ensures upper_bound { result ≤ n }
 {
     if x.0 < n {
-        return basics::word(work, area::ORDER + (x.0 as usize)) / 2;
+        return basics::get_or(work, area::ORDER + (x.0 as usize), 0) / 2;
     }
     total
 }
@@ -117,7 +113,7 @@ fn is_kept(work: &[u32], n: u32, total: u32, s: Slot) -> bool
     requires s_lt_n { s.0 < n }
     ensures { result ≡ kept_at n work.now s.0 }
 {
-    basics::word(work, area::ORDER + (s.0 as usize)) % 2 != 0
+    basics::get_or(work, area::ORDER + (s.0 as usize), 0) % 2 != 0
 }
 
 // A record with its operands under their new numbers.
@@ -125,10 +121,7 @@ fn renumbered_record(work: &[u32], n: u32, total: u32, r: Record) -> Record
     requires { Tallied n total work.now }
     ensures { result ≡ renamed_fields (renumbered_in n work.now) r }
 {
-    let a = net_map(work, n, total, fields::net_a(r));
-    let b = net_map(work, n, total, fields::net_b(r));
-    let c = net_map(work, n, total, fields::net_c(r));
-    fields::with_nets(r, a, b, c)
+    fields::renamed(r, |x| net_map(work, n, total, x))
 }
 
 // Writes the record of a slot, if it is kept, under its new number.
@@ -152,9 +145,7 @@ pub fn compact(work: &[u32], n: u32, total: u32, reply: &mut [u8])
     requires total_in_bounds { total * 16 ≤ length reply.old }
     ensures { reply.new ≡ sets reply.old 0 (ticket_of (encode (compact (netlist_in n work.now)))) }
 {
-    let mut s: u32 = 0;
-    while s < n {
+    for s in 0..n {
         copy_kept(work, n, total, Slot(s), reply);
-        s += 1;
     }
 }

@@ -6,11 +6,10 @@ ghost use Rattle.calls.specs.Work.{cleared};
 ghost use Rattle.calls.specs.Calls.{compact_bytes, compact_answer, compact_reply};
 ghost use Rattle.delivery.specs.inner.Delivery.{Delivers, Passed};
 
-use calls::Written;
-use refusals::Verdict;
+use refusals::Refusal;
 
 // 12, or the byte count, for a ticket that passed.
-fn compacted(ticket: &[u8], work: &mut [u32], reply: &mut [u8]) -> Written
+fn compacted(ticket: &[u8], work: &mut [u32], reply: &mut [u8]) -> Result<u32, Refusal>
     requires { Passed ticket.now work.old }
     ensures { Delivers (compact_bytes ticket.now) work.old work.new reply.old reply.new result }
 {
@@ -20,15 +19,15 @@ fn compacted(ticket: &[u8], work: &mut [u32], reply: &mut [u8]) -> Written
 }
 
 // Compacts a ticket into the reply: refusals 1 to 8 and 12, or the byte count.
-pub fn compact(ticket: &[u8], work: &mut [u32], reply: &mut [u8]) -> Written
+pub fn compact(ticket: &[u8], work: &mut [u32], reply: &mut [u8]) -> Result<u32, Refusal>
     ensures value { result ≡ compact_answer (length work.old) ticket.now reply.old }
     ensures reply_after { reply.new ≡ compact_reply (length work.old) ticket.now reply.old }
     ensures work_after { work.new ≡ cleared work.old }
 {
-    let w = match delivery::begin(ticket, work) {
-        Verdict::Refused(x) => Written::Refused(x),
-        Verdict::Pass => compacted(ticket, work, reply),
-    };
-    delivery::end(work);
-    w
+    delivery::with_work(
+        ticket,
+        work,
+        reply,
+        |work, reply| compacted(ticket, work, reply),
+    )
 }

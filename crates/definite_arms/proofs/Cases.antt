@@ -2,7 +2,7 @@
 use mathlib.Core.Path.{◌≡◌, refl}
 use Rattle.value.specs.declared.ControlNet.TheVariants.{Pos, Neg}
 use Rattle.value.specs.Value.{eq_net, le_net, is_always, canonicalize, not_control, eq_control, le_control}
-use Rattle.normalize.specs.Outcomes.{from_control, ◌or_else◌}
+use Rattle.normalize.specs.Outcomes.{from_control, first_change}
 use Rattle.normalize.specs.Normalize.{normalize}
 use Rattle.aig.specs.Aig.{if_not, if_aig, if_xor, not_rule, aig_of_not, and_and, and_with, aig_of_and, nand_and, xor_of, nand_nand, nand_with, aig_of_nand, xor_and, xor_with, aig_of_xor, aig_order, aig_rule, and_xor, xor_xor, xor_order, xor_rule, simple_aig_opt}
 use Rattle.basics.specs.Lists.{All}
@@ -27,7 +27,7 @@ only : {name : Name} {k : Case} → Taken (look k) k.cell k.result name → pass
 only t e = (by t e, tt)
 
 pub table-ruled : TableRuled
-unfolding eq_net le_net is_always canonicalize not_control eq_control le_control ◌or_else◌ from_control normalize if_not if_aig if_xor not_rule aig_of_not and_and and_with aig_of_and nand_and xor_of nand_nand nand_with aig_of_nand xor_and xor_with aig_of_xor aig_order aig_rule and_xor xor_xor xor_order xor_rule simple_aig_opt not_name aig_name xor_name normalize_name All arms
+unfolding eq_net le_net is_always canonicalize not_control eq_control le_control first_change from_control normalize if_not if_aig if_xor not_rule aig_of_not and_and and_with aig_of_and nand_and xor_of nand_nand nand_with aig_of_nand xor_and xor_with aig_of_xor aig_order aig_rule and_xor xor_xor xor_order xor_rule simple_aig_opt not_name aig_name xor_name normalize_name All arms
 table-ruled =
     only (inverter (not_zero refl refl)) refl
     also only (inverter (not_one refl refl)) refl

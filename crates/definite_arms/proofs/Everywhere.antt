@@ -14,9 +14,9 @@ use Rattle.value.proofs.Laws.{net-test}
 use Rattle.cell.specs.declared.Cell.{Cell}
 use Rattle.cell.specs.declared.Cell.TheVariants.{Input, Output, Buf, Not, And, Or, Xor, Mux, Aig}
 use Rattle.basics.specs.Lists.{those, any_of, All}
-use Rattle.design.specs.declared.Source.{Source}
-use Rattle.design.specs.declared.Source.TheVariants.{Opaque, Known}
-use Rattle.normalize.specs.declared.Outcome.{Outcome}
+use Rattle.std.specs.Prelude.{None, Some}
+use Rattle.design.specs.Queue.{Source}
+use Rattle.normalize.specs.Outcomes.{Outcome}
 use Rattle.normalize.specs.Normalize.{normalize}
 use Rattle.aig.specs.Aig.{aig_order, aig_rule, xor_order, xor_rule, simple_aig_opt}
 use Rattle.rewrite.specs.Rewriter.{Rewriter, Lookup, find_cell}
@@ -78,13 +78,13 @@ picked {A} P p (x ∷ xs) h e = go (p x) refl e (picked P p xs h.1)
 
 -- levels at which a case was tried are levels of its look-up
 source_fits_lem : (v : Net → Trit) (n : Net) (src : Source) → source_fits v n src ≡ true → SourceFits v n src
-source_fits_lem v n Opaque e = tt
-source_fits_lem v n (Known c) e = level-test.same (v n) (cell_value kleene v (v n) c) e
+source_fits_lem v n None e = tt
+source_fits_lem v n (Some c) e = level-test.same (v n) (cell_value kleene v (v n) c) e
 
 case-fits : (k : Case) (v : Net → Trit) → SourceFits v a k.src_a → SourceFits v b k.src_b → (n : Net) → SourceFits v n (look k n)
 case-fits k v fa fb n = go (eq_net n a) (eq_net n b) refl refl
   where
-    go : (s t : Bool) → eq_net n a ≡ s → eq_net n b ≡ t → SourceFits v n (cond s k.src_a (cond t k.src_b Opaque))
+    go : (s t : Bool) → eq_net n a ≡ s → eq_net n b ≡ t → SourceFits v n (cond s k.src_a (cond t k.src_b None))
     go true t e f = subst (λ (m : Net). SourceFits v m k.src_a) (sym (net-test.same n a e)) fa
     go false true e f = subst (λ (m : Net). SourceFits v m k.src_b) (sym (net-test.same n b f)) fb
     go false false e f = tt

@@ -10,8 +10,8 @@ use Rattle.value.specs.declared.Net.{Net}
 use Rattle.value.specs.declared.ControlNet.{ControlNet}
 use Rattle.value.specs.Value.{net, is_positive, is_negative}
 use Rattle.cell.specs.declared.Cell.{Cell}
-use Rattle.design.specs.declared.Source.{Source}
-use Rattle.normalize.specs.declared.Outcome.{Outcome}
+use Rattle.design.specs.Queue.{Source}
+use Rattle.normalize.specs.Outcomes.{Outcome}
 use Rattle.aig_laws.specs.Arms.{HasAig}
 use Rattle.aig_laws.specs.Arms as tested
 use Rattle.aig_laws.specs.Arms.{AigArm, XorArm}

@@ -1,13 +1,12 @@
 -- What the arms do to levels, tried at every assignment of levels to the nets of their cases. Assumes nothing: these are definitions.
-use Rattle.std.specs.Prelude.{◌≡◌, Bool, true, cond, not, ◌&&◌, List, [], ◌∷◌, map, ℕ, zero, suc, get_or}
+use Rattle.std.specs.Prelude.{◌≡◌, Bool, true, cond, not, ◌&&◌, List, [], ◌∷◌, map, ℕ, zero, suc, get_or, None, Some}
 use Rattle.logic.specs.declared.Trit.{Trit}
 use Rattle.logic.specs.declared.Trit.TheVariants.{Zero, One, Undef}
 use Rattle.logic.specs.Levels.{eq_level, refines}
 use Rattle.value.specs.declared.Net.{Net}
 use Rattle.value.specs.Value.{eq_net}
 use Rattle.basics.specs.Lists.{those, any_of, joined}
-use Rattle.design.specs.declared.Source.{Source}
-use Rattle.design.specs.declared.Source.TheVariants.{Opaque, Known}
+use Rattle.design.specs.Queue.{Source}
 use Rattle.levels_laws.specs.Algebra.{net_value, cell_value}
 use Rattle.levels_laws.specs.Instances.{kleene}
 use Rattle.rewrite_kept.specs.Outcomes.{gate_level, outcome_level}
@@ -15,7 +14,7 @@ use Rattle.definite_arms.specs.Arms.{Name, makes_definite, a, b, Case, Arm, arms
 
 -- what is looked up in a case
 abbrev pub look : Case → Net → Source
-look k n = cond (eq_net n a) k.src_a (cond (eq_net n b) k.src_b Opaque)
+look k n = cond (eq_net n a) k.src_a (cond (eq_net n b) k.src_b None)
 
 -- all lists of n levels
 unfoldable pub assignments : ℕ → List (List Trit)
@@ -28,8 +27,8 @@ levels_by ts = net_value kleene (λ s. get_or ts s Undef)
 
 -- a cell that is looked up has the level of its net
 abbrev pub source_fits : (Net → Trit) → Net → Source → Bool
-source_fits v n Opaque = true
-source_fits v n (Known c) = eq_level (v n) (cell_value kleene v (v n) c)
+source_fits v n None = true
+source_fits v n (Some c) = eq_level (v n) (cell_value kleene v (v n) c)
 
 -- the levels before and after pass a test, if the cells of the case fit
 abbrev pub tried : (Trit → Trit → Bool) → Case → (Net → Trit) → Bool

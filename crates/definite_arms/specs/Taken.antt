@@ -1,6 +1,6 @@
 -- The arms in general: by which of them the rules come to an outcome for any cell and any look-up, and what that does to levels. Assumes nothing:
 -- these are definitions.
-use Rattle.std.specs.Prelude.{◌≡◌, cond, ℕ}
+use Rattle.std.specs.Prelude.{◌≡◌, cond, ℕ, None, Some}
 use Rattle.std.proofs.Math.Option.{some}
 use Rattle.std.proofs.Math.ListN.{get_elem?}
 use Rattle.logic.specs.declared.Trit.{Trit}
@@ -11,10 +11,9 @@ use Rattle.value.specs.declared.ControlNet.TheVariants.{Pos, Neg}
 use Rattle.value.specs.Value.{le_net, le_control, net, is_negative}
 use Rattle.cell.specs.declared.Cell.{Cell}
 use Rattle.cell.specs.declared.Cell.TheVariants.{Input, Output, Buf, Not, And, Or, Xor, Mux, Aig}
-use Rattle.design.specs.declared.Source.{Source}
-use Rattle.normalize.specs.declared.Outcome.{Outcome}
-use Rattle.normalize.specs.declared.Outcome.TheVariants.{None, Add, AddNotOf}
-use Rattle.normalize.specs.Outcomes.{◌or_else◌}
+use Rattle.design.specs.Queue.{Source}
+use Rattle.normalize.specs.declared.Change.TheVariants.{Add, AddNotOf}
+use Rattle.normalize.specs.Outcomes.{◌or_else◌, Outcome}
 use Rattle.normalize.specs.Normalize.{normalize}
 use Rattle.aig.specs.Aig.{differ, simple_aig_opt}
 use Rattle.basics.specs.Lists.{All}
@@ -84,8 +83,8 @@ pub data Taken (look : Net → Source) : Cell → Outcome → Name → Type 0 wh
   and_turned : {p q : ControlNet} {o : Outcome} (k : AigArm (look (net q)) (look (net p)) q p o) → Taken look (Aig p q) o (aig_name k)
   xor_gate : {m n : Net} {o : Outcome} (k : XorArm (look m) (look n) m n o) → Taken look (Xor m n) o (xor_name k)
   xor_turned : {m n : Net} {o : Outcome} (k : XorArm (look n) (look m) n m o) → Taken look (Xor m n) o (xor_name k)
-  and_gate : {m n : Net} → Taken look (And m n) (Add (Aig (Pos m) (Pos n))) arm.and_split
-  or_gate : {m n : Net} → Taken look (Or m n) (AddNotOf (Aig (Neg m) (Neg n))) arm.or_split
+  and_gate : {m n : Net} → Taken look (And m n) (Some (Add (Aig (Pos m) (Pos n)))) arm.and_split
+  or_gate : {m n : Net} → Taken look (Or m n) (Some (AddNotOf (Aig (Neg m) (Neg n)))) arm.or_split
   input : {l : ℕ} → Taken look (Input l) None arm.other
   output : {m : Net} {l : ℕ} → Taken look (Output m l) None arm.other
   buffer : {m : Net} → Taken look (Buf m) None arm.other

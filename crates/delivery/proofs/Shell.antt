@@ -1,26 +1,24 @@
--- The shell of the calls: `begin`, the call's own step, `end`. Assumes nothing.
+-- The shell of the calls: their begin, their own step, and their end. Assumes nothing.
 use mathlib.Core.Path.{◌≡◌, refl, sym, ap, ◌∙◌}
 use mathlib.Core.List.{List, ◌++◌}
 use Prim.Native.Nat.{ℕ, ◌<◌, ◌≤◌}
 use native.Mathlib.Omega.{arith}
 use lib.ListN.{length, drop}
+use Rattle.std.specs.Prelude.{Ok, Err, Result}
 use Rattle.refusals.specs.declared.Refusal.{Refusal}
 use Rattle.refusals.specs.declared.Refusal.TheVariants.{ShortWork}
-use Rattle.refusals.specs.declared.Verdict.{Verdict}
-use Rattle.refusals.specs.declared.Verdict.TheVariants.{Pass, Refused}
-use Rattle.refusals.specs.Refusals.{Stage, first_of}
+use Rattle.refusals.specs.Refusals.{Stage, first_of, Verdict}
 use Rattle.checking.specs.Checking.{check_stages}
 use Rattle.refusals.proofs.Stages.{passes-not, later-decides, earlier-decides}
-use Rattle.calls.specs.declared.Written.{Written}
 use Rattle.calls.specs.Work.{cleared}
-use Rattle.calls.specs.Answers.{written_by}
+use Rattle.calls.specs.Answers.{answer_by}
 use Rattle.calls.specs.Calls.{reply_after}
-use Rattle.delivery.specs.inner.Delivery.{Decides, Passed, Begins}
+use Rattle.delivery.specs.inner.Delivery.{Decides, Passed, Begins, Called}
 use Rattle.delivery.proofs.Work.{cleared_by}
 use Rattle.delivery.proofs.Deciding.{short-refused, ticket-passed}
 
 -- `begin`: 1, and 2 to 8
-pub begins-short : (t ws : List ℕ) → length ws < 16384 → Begins t ws ws (Refused ShortWork)
+pub begins-short : (t ws : List ℕ) → length ws < 16384 → Begins t ws ws (Err ShortWork)
 begins-short t ws h =
     record { said = sym (short-refused (length ws) t h); rest = refl; short = λ l. refl; pass = λ e. absurd (passes-not ShortWork (sym e)) }
 
@@ -33,7 +31,7 @@ begins-long t ws ws' v v-is kept same h = record {
   pass = λ e. ticket-passed t ws ws' v v-is e same h;
 }
 
-pub begins-passed : (t ws ws' : List ℕ) (v : Verdict) → Begins t ws ws' v → v ≡ Pass → Passed t ws'
+pub begins-passed : (t ws ws' : List ℕ) (v : Verdict) → Begins t ws ws' v → v ≡ Ok tt → Passed t ws'
 begins-passed t ws ws' v b e = b.pass e
 
 -- `begin` and `end` alone
@@ -42,8 +40,8 @@ begins-ends t ws ws₁ ws₂ v b e = e ∙ b.rest
 
 -- between the two a call hands a refusal on, or takes its own step, which decides by stages of its own
 pub data Steps {A : Type 0} (answer : Verdict → A) (own : List Stage) (bytes ws ws' reply reply' : List ℕ) (v : Verdict) (r : A) : Type 0 where
-  handed : (x : Refusal) → v ≡ Refused x → r ≡ answer (Refused x) → ws' ≡ ws → reply' ≡ reply → Steps answer own bytes ws ws' reply reply' v r
-  taken : (ws₂ reply₂ : List ℕ) (r₂ : A) → Decides answer own bytes ws ws₂ reply reply₂ r₂ → v ≡ Pass → length ws₂ ≡ length ws
+  handed : (x : Refusal) → v ≡ Err x → r ≡ answer (Err x) → ws' ≡ ws → reply' ≡ reply → Steps answer own bytes ws ws' reply reply' v r
+  taken : (ws₂ reply₂ : List ℕ) (r₂ : A) → Decides answer own bytes ws ws₂ reply reply₂ r₂ → v ≡ Ok tt → length ws₂ ≡ length ws
       → r ≡ r₂ → ws' ≡ ws₂ → reply' ≡ reply₂ → Steps answer own bytes ws ws' reply reply' v r
 
 -- THE LAW of the calls: the stages of checking and then the call's own decide answer and reply, and the work slice is wiped
@@ -52,7 +50,7 @@ module _ {A : Type 0} {answer : Verdict → A} {own : List Stage} {bytes t ws ws
       → (r ≡ answer (first_of (check_stages (length ws) t ++ own)))
       × ((reply' ≡ reply_after (first_of (check_stages (length ws) t ++ own)) reply bytes) × (ws₃ ≡ cleared ws))
   called b (handed x e r-is same left) wiped =
-      let f : first_of (check_stages (length ws) t ++ own) ≡ Refused x = earlier-decides (check_stages (length ws) t) own x (sym b.said ∙ e) in
+      let f : first_of (check_stages (length ws) t ++ own) ≡ Err x = earlier-decides (check_stages (length ws) t) own x (sym b.said ∙ e) in
       (r-is ∙ ap answer (sym f), (rw f left, wiped ∙ ap cleared same ∙ b.rest))
   called b (taken w₂ reply₂ r₂ d e same r-is work-is left) wiped =
       let f : first_of own ≡ first_of (check_stages (length ws) t ++ own) = sym (later-decides (check_stages (length ws) t) own (sym b.said ∙ e)) in (
@@ -63,9 +61,8 @@ module _ {A : Type 0} {answer : Verdict → A} {own : List Stage} {bytes t ws ws
         ),
       )
 
--- the same for a call that answers with the count of the bytes written
-pub called-written : {own : List Stage} {bytes t ws ws₁ ws₂ ws₃ reply reply' : List ℕ} {v : Verdict} {r : Written} → Begins t ws ws₁ v
-    → Steps (λ y. written_by y (length bytes)) own bytes ws₁ ws₂ reply reply' v r → ws₃ ≡ cleared ws₂
-    → (r ≡ written_by (first_of (check_stages (length ws) t ++ own)) (length bytes))
-    × ((reply' ≡ reply_after (first_of (check_stages (length ws) t ++ own)) reply bytes) × (ws₃ ≡ cleared ws))
-called-written b s e = called b s e
+-- the same for the shell, with any step
+module _ {A : Type 0} (told : A) {own : List Stage} {bytes t ws ws₁ ws₂ ws₃ reply reply' : List ℕ} {v : Verdict} {r : Result A Refusal} where
+  pub shell-called : Begins t ws ws₁ v → Steps (λ y. answer_by y told) own bytes ws₁ ws₂ reply reply' v r → ws₃ ≡ cleared ws₂
+      → Called told own bytes t ws ws₃ reply reply' r
+  shell-called b s e = let all = called b s e in record { said = all.0; left = all.1.0; wiped = all.1.1 }

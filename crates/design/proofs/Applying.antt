@@ -98,7 +98,6 @@ module _ (n s : ℕ) (ws ws' : List ℕ) (q : Record) (q-is : q ≡ word_record 
 
 -- slot after slot
 pub record Applying (n : ℕ) (ws₀ ws : List ℕ) (changed : Bool) (s : ℕ) : Type 0 where
-  pub upto : s ≤ n
   pub few : n ≤ 1024
   pub long : 16384 ≤ length ws₀
   pub done : (u : ℕ) → u < s → word_record ws u ≡ replaced_record n ws₀ u
@@ -109,7 +108,6 @@ pub record Applying (n : ℕ) (ws₀ ws : List ℕ) (changed : Bool) (s : ℕ) :
 pub applying-none : (n : ℕ) (ws : List ℕ) → n ≤ 1024 → 16384 ≤ length ws → Applying n ws ws false 0
 unfolding tabulate any_of
 applying-none n ws few long = record {
-  upto = omega arith;
   few = few;
   long = long;
   done = λ u l. absurd (omega arith);
@@ -142,7 +140,6 @@ module _ (n : ℕ) (ws₀ ws : List ℕ) (changed : Bool) (s : ℕ) (g : Applyin
     pub applying-more : (changed' : Bool) → changed' ≡ changed || more → Applying n ws₀ ws' changed' (s + 1)
     unfolding tabulate
     applying-more changed' e = record {
-      upto = omega arith;
       few = g.few;
       long = g.long;
       done = λ u m. go u m (dec_lt u s);
@@ -159,7 +156,7 @@ module _ (n : ℕ) (ws₀ ws : List ℕ) (changed : Bool) (s : ℕ) (g : Applyin
         go u m (yes k) = stored_there u (λ q. absurd (omega arith)) ∙ g.done u k
         go u m (no k) = let q : s ≡ u = omega arith in subst (λ (v : ℕ). word_record ws' v ≡ replaced_record n ws₀ v) q stored_here
 
-  module _ (end : n ≤ s) where
+  module _ (upto : s ≤ n) (end : n ≤ s) where
     new-cells : map cell_of (records_in n ws) ≡ map (visit_mut (map_net_new (replaced_in n ws₀))) (map cell_of (records_in n ws₀))
     unfolding records_in renamed_record
     new-cells =
@@ -185,8 +182,5 @@ module _ (n : ℕ) (ws₀ ws : List ℕ) (changed : Bool) (s : ℕ) (g : Applyin
     unfolding changes_in did_change design_in netlist_of records_in
     applied-flag =
         let p : Cell → Bool = λ c. any_of (λ x. not (eq_net (map_net_new (replaced_in n ws₀) x) x)) (visit c) in
-        g.flag ∙ ap (λ (k : ℕ). any_of (changes_in n ws₀) (slots k)) (let e : s ≡ n = let u : s ≤ n = g.upto in omega arith in e)
+        g.flag ∙ ap (λ (k : ℕ). any_of (changes_in n ws₀) (slots k)) (let e : s ≡ n = omega arith in e)
         ∙ sym (ap (any_of p) (map-table (word_record ws₀) cell_of n) ∙ any-table (λ u. cell_of (word_record ws₀ u)) p n)
-
-  pub applied-frame : Within 0 visited_at ws₀ ws
-  applied-frame = g.frame

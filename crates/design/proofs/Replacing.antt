@@ -22,7 +22,7 @@ use Rattle.basics.specs.Lists.{tabulate, any_of}
 use Rattle.cell.specs.Records.{cell_record}
 use Rattle.netlist.specs.inner.Areas.{Within, figures_at, replaced_at}
 use Rattle.netlist.specs.Shape.{visit, visit_mut}
-use Rattle.netlist.proofs.Frames.{within_none, within-then, within-set, tabulate-same}
+use Rattle.netlist.proofs.Frames.{within-then, within-set, tabulate-same}
 use Rattle.design.specs.Queue.{net_in, driven_to, followed, map_net_new, eq_record, eq_cell}
 use Rattle.design.specs.inner.Words.{replaced_in}
 use Rattle.order.proofs.Words.{tabulate-set}
@@ -41,40 +41,36 @@ module _ (n : ℕ) (ws : List ℕ) (x : Net) (d : Driver) (d-is : d ≡ driver x
     step_past h = rw (← d-is, e) (sym (replaced-past n ws s.0 x h))
 
 -- step after step
-pub record Following (n : ℕ) (ws : List ℕ) (x y : Net) (left : ℕ) : Type 0 where
-  pub rest : followed left (replaced_in n ws) y ≡ map_net_new (replaced_in n ws) x
+pub record Following (n : ℕ) (ws : List ℕ) (x y : Net) (i : ℕ) : Type 0 where
+  pub rest : followed (n - i) (replaced_in n ws) y ≡ map_net_new (replaced_in n ws) x
 
-pub follows-none : (n : ℕ) (ws : List ℕ) (x : Net) → Following n ws x x n
+pub follows-none : (n : ℕ) (ws : List ℕ) (x : Net) → Following n ws x x 0
 unfolding map_net_new
-follows-none n ws x = record { rest = ap (λ (k : ℕ). followed k (replaced_in n ws) x) (sym (replaced-length n ws)) }
+follows-none n ws x = record { rest = ap (λ (k : ℕ). followed k (replaced_in n ws) x) (omega (arith, replaced-length n ws)) }
 
-module _ (n : ℕ) (ws : List ℕ) (x y : Net) (left : ℕ) (g : Following n ws x y left) where
-  pub follows-end : left ≤ 0 → y ≡ map_net_new (replaced_in n ws) x
+module _ (n : ℕ) (ws : List ℕ) (x y : Net) (i : ℕ) (g : Following n ws x y i) where
+  pub follows-end : n ≤ i → y ≡ map_net_new (replaced_in n ws) x
   unfolding followed
-  follows-end h = ap (λ (k : ℕ). followed k (replaced_in n ws) y) (let e : 0 ≡ left = omega arith in e) ∙ g.rest
+  follows-end h = ap (λ (k : ℕ). followed k (replaced_in n ws) y) (let e : 0 ≡ n - i = omega arith in e) ∙ g.rest
 
-  module _ (l : 0 < left) (z : Net) (z-is : z ≡ driven_to (replaced_in n ws) y (driver y)) (b : Bool) (b-is : b ≡ eq_net z y) where
-    opened : cond b y (followed (left - 1) (replaced_in n ws) z) ≡ map_net_new (replaced_in n ws) x
+  module _ (l : i < n) (z : Net) (z-is : z ≡ driven_to (replaced_in n ws) y (driver y)) (b : Bool) (b-is : b ≡ eq_net z y) where
+    opened : cond b y (followed (n - (i + 1)) (replaced_in n ws) z) ≡ map_net_new (replaced_in n ws) x
     unfolding followed
     opened =
-        rw (b-is, z-is) (ap (λ (k : ℕ). followed k (replaced_in n ws) y) (let e : suc (left - 1) ≡ left = omega arith in e) ∙ g.rest)
+        rw (b-is, z-is) (ap (λ (k : ℕ). followed k (replaced_in n ws) y) (let e : suc (n - (i + 1)) ≡ n - i = omega arith in e) ∙ g.rest)
 
     pub follows-stop : b ≡ true → y ≡ map_net_new (replaced_in n ws) x
     follows-stop e = rw e at opened
 
-    pub follows-more : b ≡ false → Following n ws x z (left - 1)
+    pub follows-more : b ≡ false → Following n ws x z (i + 1)
     follows-more e = record { rest = rw e at opened }
 
 -- nothing replaced yet
 pub record Unchanging (n : ℕ) (ws₀ ws : List ℕ) (s : ℕ) : Type 0 where
-  pub upto : s ≤ n
   pub few : n ≤ 1024
   pub long : 16384 ≤ length ws₀
   pub each : (u : ℕ) → u < s → get_or ws (replaced_at + u) 0 ≡ u + 2
   pub frame : Within replaced_at figures_at ws₀ ws
-
-pub unchanging-none : (n : ℕ) (ws : List ℕ) → n ≤ 1024 → 16384 ≤ length ws → Unchanging n ws ws 0
-unchanging-none n ws few long = record { upto = omega arith; few = few; long = long; each = λ u l. absurd (omega arith); frame = within_none replaced_at figures_at ws }
 
 module _ (n : ℕ) (ws₀ ws : List ℕ) (s : ℕ) (g : Unchanging n ws₀ ws s) where
   pub unchanging-more : (ws' : List ℕ) (x : Net) → s < n → x ≡ net_in s → ws' ≡ set ws (replaced_at + s) x.0 → Unchanging n ws₀ ws' (s + 1)
@@ -82,7 +78,6 @@ module _ (n : ℕ) (ws₀ ws : List ℕ) (s : ℕ) (g : Unchanging n ws₀ ws s)
       let few : n ≤ 1024 = g.few in
       let f : ws' ≡ set ws (replaced_at + s) (s + 2) = e ∙ ap (λ (y : Net). set ws (replaced_at + s) y.0) x-is in
       subst (λ (vs : List ℕ). Unchanging n ws₀ vs (s + 1)) (sym f) (record {
-        upto = omega arith;
         few = g.few;
         long = g.long;
         each = λ u m. go u m (dec_lt u s);
@@ -100,9 +95,6 @@ module _ (n : ℕ) (ws₀ ws : List ℕ) (s : ℕ) (g : Unchanging n ws₀ ws s)
   pub unchanging-all : n ≤ s → replaced_in n ws ≡ tabulate net_in n
   unfolding replaced_in
   unchanging-all h = tabulate-same (λ i. net_at (get_or ws (replaced_at + i) 0)) net_in n (λ u l. ap net_at (g.each u (omega arith)))
-
-  pub unchanging-frame : Within replaced_at figures_at ws₀ ws
-  unchanging-frame = g.frame
 
 -- one net replaced
 module _ (n : ℕ) (ws ws' : List ℕ) (s : Slot) (x : Net) (e : ws' ≡ set ws (replaced_at + s.0) x.0) (few : n ≤ 1024) (l : s.0 < n) where

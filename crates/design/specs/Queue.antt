@@ -1,5 +1,5 @@
 -- The change queue (netlist/src/design.rs, `Design` with its `ChangeQueue`). Assumes nothing: these are definitions.
-use Rattle.std.specs.Prelude.{Bool, cond, not, ◌&&◌, List, [], ◌∷◌, ◌++◌, map, ℕ, zero, suc, eqb, length, get_or, set}
+use Rattle.std.specs.Prelude.{Bool, cond, not, ◌&&◌, List, [], ◌∷◌, ◌++◌, map, ℕ, zero, suc, eqb, length, get_or, set, Option, None, Some}
 use Rattle.value.specs.declared.Net.{Net}
 use Rattle.value.specs.declared.Driver.{Driver}
 use Rattle.value.specs.declared.Driver.TheVariants as driven
@@ -10,8 +10,6 @@ use Rattle.cell.specs.Records.{cell_record}
 use Rattle.basics.specs.Lists.{tabulate, any_of}
 use Rattle.netlist.specs.Shape.{visit, visit_mut}
 use Rattle.netlist.specs.Netlist.{cell_in}
-use Rattle.design.specs.declared.Source.{Source}
-use Rattle.design.specs.declared.Source.TheVariants.{Opaque, Known}
 
 -- `cells`, with `replaced_cells` written into their slots and `added_cells` behind the last slot; and `replaced_nets` by slot, where a net
 -- that is not replaced stands for itself. `unalived_cells` need no mark: nothing names a replaced net after `apply`, and `compact` drops its slot
@@ -22,6 +20,11 @@ pub record Design : Type 0 where
 -- the net of a slot
 abbrev pub net_in : ℕ → Net
 net_in s = net_of (slot_at s)
+
+-- what the rules see of a net: the cell that it comes from, none for an opaque net. A constant is opaque too: the Rust's look-up shows it, and no
+-- rule tells it from an opaque net
+abbrev pub Source : Type 0
+Source = Option Cell
 
 -- nothing is replaced yet
 unfoldable pub unchanged : List Cell → Design
@@ -43,8 +46,8 @@ map_net_new rs n = followed (length rs) rs n
 
 -- `Design::find_new_cell`. A cell in a slot that was not rewritten has the ticket's operands
 abbrev pub source_in : List Cell → Driver → Source
-source_in cs (driven.Const t) = Opaque
-source_in cs (driven.Cell s) = Known (cell_in cs s.0)
+source_in cs (driven.Const t) = None
+source_in cs (driven.Cell s) = Some (cell_in cs s.0)
 
 unfoldable pub find_new_cell : Design → Net → Source
 find_new_cell d n = source_in d.cells (driver (map_net_new d.replaced n))

@@ -18,14 +18,12 @@ pub fn unchanged(work: &mut [u32], n: u32)
     ensures work_after { replaced_in n work.new ≡ tabulate net_in n }
     ensures within { Within replaced_at figures_at work.old work.new }
 {
-    let mut s: u32 = 0;
-    while s < n {
+    for s in 0..n {
         basics::put(
             work,
             area::REPLACED + (s as usize),
             Net::from_cell_index(Slot(s)).0,
         );
-        s += 1;
     }
 }
 
@@ -48,7 +46,7 @@ fn replaced_by(work: &[u32], n: u32, x: Net) -> Net
         Driver::Const(_) => x,
         Driver::Cell(s) => {
             if s.0 < n {
-                return Net(basics::word(work, area::REPLACED + (s.0 as usize)));
+                return Net(basics::get_or(work, area::REPLACED + (s.0 as usize), 0));
             }
             x
         }
@@ -60,35 +58,30 @@ pub fn map_net_new(work: &[u32], n: u32, x: Net) -> Net
     ensures { result ≡ map_net_new (replaced_in n work.now) x }
 {
     let mut y = x;
-    let mut left = n;
-    while 0 < left {
+    for _ in 0..n {
         let z = replaced_by(work, n, y);
-        if value::net_eq(z, y) {
+        if z == y {
             return y;
         }
         y = z;
-        left -= 1;
     }
     y
 }
 
 // Equality of records but for the bit.
-fn record_eq(x: Record, y: Record) -> bool
+pub fn record_eq(x: Record, y: Record) -> bool
     ensures { result ≡ eq_record x y }
 {
-    let heads = basics::both(x.kind == y.kind, x.flags == y.flags);
-    let pair = basics::both(heads, x.a == y.a);
-    basics::both(basics::both(pair, x.b == y.b), x.c == y.c)
+    let heads = (x.kind == y.kind) & (x.flags == y.flags);
+    let pair = heads & (x.a == y.a);
+    pair & (x.b == y.b) & (x.c == y.c)
 }
 
 // A cell's record with the nets that its operands are replaced by.
 pub fn replaced_record(work: &[u32], n: u32, r: Record) -> Record
     ensures { result ≡ renamed_fields (map_net_new (replaced_in n work.now)) r }
 {
-    let a = map_net_new(work, n, fields::net_a(r));
-    let b = map_net_new(work, n, fields::net_b(r));
-    let c = map_net_new(work, n, fields::net_c(r));
-    fields::with_nets(r, a, b, c)
+    fields::renamed(r, |x| map_net_new(work, n, x))
 }
 
 // Writes such a record into its slot. Not by `replaced_record`: what a call has just stored byte by byte would be read back whole, and that
@@ -123,11 +116,9 @@ pub fn apply(work: &mut [u32], n: u32) -> bool
     ensures within { Within 0 visited_at work.old work.new }
 {
     let mut changed = false;
-    let mut s: u32 = 0;
-    while s < n {
+    for s in 0..n {
         let more = apply_to(work, n, Slot(s));
-        changed = basics::either(changed, more);
-        s += 1;
+        changed = changed | more;
     }
     changed
 }

@@ -7,15 +7,15 @@ use native.Mathlib.Omega.{arith}
 use lib.Dec.{eqb}
 use lib.ListN.{length, length-map}
 use borrow.Author.Tests.{eqb-true, ltb-false, not-false}
+use Rattle.std.specs.Prelude.{Ok}
 use Rattle.cell.specs.declared.Record.{Record}
 use Rattle.kinds.specs.declared.Use.{Use}
 use Rattle.kinds.specs.declared.Use.TheVariants.{Unused, Label, Operand}
 use Rattle.cell.specs.declared.Cell.TheVariants.{Input}
-use Rattle.kinds.specs.Kinds.{kind_of}
+use Rattle.kinds.specs.Kinds.{is_known, kind_of}
 use Rattle.cell.specs.Records.{record_of, record_in, cell_of, cell_record}
 use Rattle.cell.proofs.RoundTrips.{ZeroIf, WellFormed, record-back}
 use Rattle.loops.proofs.Rank.{rank}
-use Rattle.refusals.specs.declared.Verdict.TheVariants.{Pass}
 use Rattle.refusals.specs.Refusals.{first_of}
 use Rattle.checking.specs.Checking.{unknown_kind, unused_not_zero, reserved_field, bit_out_of_sequence, out_of_sequence, netlist_stages}
 use Rattle.netlist.specs.Shape.{visit}
@@ -44,14 +44,14 @@ well-formed r e f =
     let g₂ = neither (unused_not_zero k.b r.b) _ g₁.1 in
     let g₃ = neither (unused_not_zero k.c r.c) _ g₂.1 in
     record {
-      known = not-false k.known e;
+      known = not-false (is_known r.kind) e;
       a = zero-if k.a r.a g₁.0;
       b = zero-if k.b r.b g₂.0;
       c = zero-if k.c r.c g₃.0;
       flags = ltb-false k.flags r.flags g₃.1;
     }
 
-module _ (rs : List Record) (few : length rs ≤ 65536) (pass : first_of (netlist_stages rs) ≡ Pass) where
+module _ (rs : List Record) (few : length rs ≤ 65536) (pass : first_of (netlist_stages rs) ≡ Ok tt) where
   -- the netlist of the records
   abbrev netlist : Netlist
   netlist = netlist_of rs

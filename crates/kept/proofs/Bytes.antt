@@ -8,6 +8,7 @@ use lib.ListN.{length, get_or, length-map}
 use lib.Seq.{get_or-append-add, ext_get_or}
 use lib.Dec.{ltb}
 use borrow.Author.Tests.{eq-eqb, le-ltb}
+use Rattle.std.specs.Prelude.{Ok}
 use Rattle.logic.specs.declared.Trit.{Trit}
 use Rattle.logic.specs.declared.Trit.TheVariants.{Zero, One, Undef}
 use Rattle.value.specs.declared.Net.{Net}
@@ -25,7 +26,6 @@ use Rattle.cell.proofs.Lists.{records-length, records-at}
 use Rattle.cell.proofs.RoundTrips.{cell-back, Ranged, bytes_back}
 use Rattle.refusals.specs.Refusals.{first_of}
 use Rattle.checking.specs.Checking.{netlist_stages}
-use Rattle.refusals.specs.declared.Verdict.TheVariants.{Pass}
 use Rattle.checking.proofs.Groups.{SizesPass, sizes-exactly, check-exactly}
 use Rattle.netlist.specs.Shape.{visit, visit_mut, has_effects}
 use Rattle.netlist.specs.Netlist.{Netlist, netlist_of, cell_in, encode, ticket_of}
@@ -206,11 +206,11 @@ module _ (d : Netlist) (rank : ℕ → ℕ) (good : Sound d rank) (labelled : La
   pub encoded-count : length (encoded d) / 16 ≡ length d.cells
   encoded-count = ticket-records (encode d) ∙ encode-length d rank good
 
-  pub encoded-records : first_of (netlist_stages (records_of (encoded d))) ≡ Pass
+  pub encoded-records : first_of (netlist_stages (records_of (encoded d))) ≡ Ok tt
   encoded-records = ap (λ (rs : List Record). first_of (netlist_stages rs)) records-back ∙ sound-passes d rank good
 
   -- so checking passes it, where they are not too many
-  pub encoded-passes : (words : ℕ) → ltb words 16384 ≡ false → length (encoded d) / 16 ≤ 512 → check_verdict words (encoded d) ≡ Pass
+  pub encoded-passes : (words : ℕ) → ltb words 16384 ≡ false → length (encoded d) / 16 ≤ 512 → check_verdict words (encoded d) ≡ Ok tt
   unfolding check_verdict
   encoded-passes words enough l =
       let sizes : SizesPass words (encoded d) = record {

@@ -8,6 +8,7 @@ use native.Mathlib.Omega.{arith}
 use lib.Dec.{eqb, ltb}
 use lib.ListN.{length, get_or, take, drop}
 use lib.Seq.{take-append_seam, drop-append_seam}
+use Rattle.std.specs.Prelude.{Ok, Err}
 use Rattle.logic.specs.Levels.{byte_of}
 use Rattle.value.specs.declared.Net.{Net}
 use Rattle.cell.specs.declared.Record.{Record}
@@ -15,10 +16,8 @@ use Rattle.cell.specs.declared.Cell.{Cell}
 use Rattle.cell.specs.Bytes.{word32}
 use Rattle.cell.specs.Records.{record_at, records_of, cell_record}
 use Rattle.loops.proofs.Rank.{rank}
-use Rattle.refusals.specs.declared.Verdict.{Verdict}
-use Rattle.refusals.specs.declared.Verdict.TheVariants.{Pass, Refused}
 use Rattle.refusals.specs.declared.Refusal.TheVariants.{LevelCount, LevelValue}
-use Rattle.refusals.specs.Refusals.{Stage, first_of, slot_by_slot}
+use Rattle.refusals.specs.Refusals.{Stage, first_of, slot_by_slot, Verdict}
 use Rattle.checking.specs.Checking.{check_stages}
 use Rattle.refusals.proofs.Stages.{later-decides, passes-both}
 use Rattle.netlist.specs.Shape.{visit_mut}
@@ -27,9 +26,9 @@ use Rattle.compact.specs.Compact.{compact}
 use Rattle.compact.proofs.Lists.{ticket-length}
 use Rattle.merge.specs.Merge.{merge}
 use Rattle.levels.specs.Evaluate.{input_slots, output_levels}
-use Rattle.calls.specs.declared.Written.TheVariants as written
-use Rattle.calls.specs.declared.Merged.TheVariants as merged
-use Rattle.calls.specs.Answers.{written_by, merged_by}
+use Rattle.calls.specs.declared.Merged.{Merged}
+use Rattle.calls.proofs.Answers.{answered}
+use Rattle.calls.specs.Answers.{answer_by, merged_of}
 use Rattle.calls.specs.Calls.{put, decoded, encoded, reply_after, room, check_verdict, compact_bytes, compact_verdict, compact_answer, compact_reply, merge_bytes, merge_verdict, merge_answer, merge_reply, level_bytes, stimulus_stages, level_verdict, level_answer, level_reply}
 use Rattle.kept.specs.Kept.{Bytes, Kept}
 use Rattle.kept.proofs.Sound.{Sound}
@@ -48,7 +47,7 @@ small-kept : (f : Net → Net) (c : Cell) → Small c → Small (visit_mut f c)
 small-kept f c h = subst (λ (l : ℕ). l < 4294967296) (sym (label_kept f c)) h
 
 -- an accepted ticket
-module _ (words : ℕ) (t : List ℕ) (pass : check_verdict words t ≡ Pass) (bytes : Bytes t) where
+module _ (words : ℕ) (t : List ℕ) (pass : check_verdict words t ≡ Ok tt) (bytes : Bytes t) where
   abbrev ticket : Netlist
   ticket = decoded t
 
@@ -69,7 +68,7 @@ module _ (words : ℕ) (t : List ℕ) (pass : check_verdict words t ≡ Pass) (b
 
   -- a sound netlist as a ticket
   module _ (d : Netlist) (g : ℕ → ℕ) (good : Sound d g) (labelled : Labelled d) where
-    result-passes : length d.cells ≤ length ticket.cells → check_verdict words (encoded d) ≡ Pass
+    result-passes : length d.cells ≤ length ticket.cells → check_verdict words (encoded d) ≡ Ok tt
     result-passes l =
         encoded-passes d g good labelled words (ticket-work words t pass) (omega (arith, l, encoded-count d g good labelled, ticket-few words t pass))
 
@@ -91,7 +90,7 @@ module _ (words : ℕ) (t : List ℕ) (pass : check_verdict words t ≡ Pass) (b
       unfolding level_verdict check_verdict
       same-verdict stimulus reply =
           let rest : List ℕ → List Stage = λ u. stimulus_stages (decoded u).cells stimulus ++ (room reply (level_bytes u stimulus) ∷ []) in
-          let past : (u : List ℕ) → check_verdict words u ≡ Pass → level_verdict words u stimulus reply ≡ first_of (rest u) =
+          let past : (u : List ℕ) → check_verdict words u ≡ Ok tt → level_verdict words u stimulus reply ≡ first_of (rest u) =
           λ u e. ap first_of (append_assoc (check_stages words u) (stimulus_stages (decoded u).cells stimulus) (room reply (level_bytes u stimulus) ∷ []))
           ∙ later-decides (check_stages words u) (rest u) e in
           past (encoded d) (result-passes fewer)
@@ -106,7 +105,7 @@ module _ (words : ℕ) (t : List ℕ) (pass : check_verdict words t ≡ Pass) (b
             let n : length (encode d) ≡ length d.cells = encode-length d g good in
             omega (arith, ticket-length (encode d), ticket-count words t pass);
         levels = same-levels;
-        answers = λ stimulus reply. ap₂ (λ v (bs : List ℕ). written_by v (length bs)) (same-verdict stimulus reply) (same-levels stimulus);
+        answers = λ stimulus reply. ap₂ (λ v (bs : List ℕ). answer_by v (length bs)) (same-verdict stimulus reply) (same-levels stimulus);
         replies = λ stimulus reply. ap₂ (λ v (bs : List ℕ). reply_after v reply bs) (same-verdict stimulus reply) (same-levels stimulus);
       }
 
@@ -126,50 +125,42 @@ module _ (words : ℕ) (t : List ℕ) (pass : check_verdict words t ≡ Pass) (b
       (merge-shorter ticket ranks good-ticket) (merge-inputs ticket ranks good-ticket) (merge-keeps-levels ticket ranks good-ticket)
 
 -- over the definitions of the results
-pub compact-keeps : (words : ℕ) (t : List ℕ) → Bytes t → check_verdict words t ≡ Pass → Kept words t (compact_bytes t)
+pub compact-keeps : (words : ℕ) (t : List ℕ) → Bytes t → check_verdict words t ≡ Ok tt → Kept words t (compact_bytes t)
 compact-keeps words t bytes pass = compact-kept words t pass bytes
 
-pub merge_keeps : (words : ℕ) (t : List ℕ) → Bytes t → check_verdict words t ≡ Pass → Kept words t (merge_bytes t)
+pub merge_keeps : (words : ℕ) (t : List ℕ) → Bytes t → check_verdict words t ≡ Ok tt → Kept words t (merge_bytes t)
 merge_keeps words t bytes pass = merge-kept words t pass bytes
 
 -- over the calls: where one answers with a count, that many bytes of the reply are such a ticket
-pub written-first : (v : Verdict) (reply bytes : List ℕ) (n : ℕ) → v ≡ Pass → n ≡ length bytes → take n (reply_after v reply bytes) ≡ bytes
+pub written-first : (v : Verdict) (reply bytes : List ℕ) (n : ℕ) → v ≡ Ok tt → n ≡ length bytes → take n (reply_after v reply bytes) ≡ bytes
 unfolding put
 written-first v reply bytes n e q =
     ap₂ (λ (k : ℕ) (w : Verdict). take k (reply_after w reply bytes)) q e ∙ take-append_seam bytes (drop (length bytes) reply)
 
-pub written-later : (v : Verdict) (reply bytes : List ℕ) (n : ℕ) → v ≡ Pass → n ≡ length bytes → drop n (reply_after v reply bytes) ≡ drop n reply
+pub written-later : (v : Verdict) (reply bytes : List ℕ) (n : ℕ) → v ≡ Ok tt → n ≡ length bytes → drop n (reply_after v reply bytes) ≡ drop n reply
 unfolding put
 written-later v reply bytes n e q =
     ap₂ (λ (k : ℕ) (w : Verdict). drop k (reply_after w reply bytes)) q e ∙ drop-append_seam bytes (drop (length bytes) reply)
     ∙ ap (λ (k : ℕ). drop k reply) (sym q)
 
-pub written_count : (v : Verdict) (k n : ℕ) → written_by v k ≡ written.Accepted n → (v ≡ Pass) × (n ≡ k)
-written_count Pass k n e = (refl, cc)
-written_count (Refused r) k n e = let z : ◌≡◌ {A = ℕ} 0 1 = cc in absurd (omega arith)
-
-pub merged-count : (v : Verdict) (k n : ℕ) (b changed : Bool) → merged_by v k b ≡ merged.Accepted n changed → (v ≡ Pass) × (n ≡ k)
-merged-count Pass k n b changed e = (refl, cc)
-merged-count (Refused r) k n b changed e = let z : ◌≡◌ {A = ℕ} 0 1 = cc in absurd (omega arith)
-
 module _ (words : ℕ) (t reply : List ℕ) where
   -- a call that checks the ticket, then asks for room
-  checked-first : (bytes : List ℕ) → first_of (check_stages words t ++ (room reply bytes ∷ [])) ≡ Pass → check_verdict words t ≡ Pass
+  checked-first : (bytes : List ℕ) → first_of (check_stages words t ++ (room reply bytes ∷ [])) ≡ Ok tt → check_verdict words t ≡ Ok tt
   unfolding check_verdict
   checked-first bytes e = (passes-both (check_stages words t) (room reply bytes ∷ []) e).0
 
-  pub compact-call : (n : ℕ) → Bytes t → compact_answer words t reply ≡ written.Accepted n → Kept words t (take n (compact_reply words t reply))
+  pub compact-call : (n : ℕ) → Bytes t → compact_answer words t reply ≡ Ok n → Kept words t (take n (compact_reply words t reply))
   unfolding compact_answer compact_reply compact_verdict
   compact-call n bytes e =
       let v : Verdict = compact_verdict words t reply in
-      let a = written_count v (length (compact_bytes t)) n e in
+      let a = answered v (length (compact_bytes t)) n e in
       subst (Kept words t) (sym (written-first v reply (compact_bytes t) n a.0 a.1))
       (compact-keeps words t bytes (checked-first (compact_bytes t) a.0))
 
-  pub merge-call : (n : ℕ) (changed : Bool) → Bytes t → merge_answer words t reply ≡ merged.Accepted n changed → Kept words t (take n (merge_reply words t reply))
+  pub merge-call : (n : ℕ) (changed : Bool) → Bytes t → merge_answer words t reply ≡ Ok (merged_of n changed) → Kept words t (take n (merge_reply words t reply))
   unfolding merge_answer merge_reply merge_verdict
   merge-call n changed bytes e =
       let v : Verdict = merge_verdict words t reply in
-      let a = merged-count v (length (merge_bytes t)) n (merge (decoded t)).1 changed e in
-      subst (Kept words t) (sym (written-first v reply (merge_bytes t) n a.0 a.1))
+      let a = answered v (merged_of (length (merge_bytes t)) (merge (decoded t)).1) (merged_of n changed) e in
+      subst (Kept words t) (sym (written-first v reply (merge_bytes t) n a.0 (ap (λ (told : Merged). told.bytes) a.1)))
       (merge_keeps words t bytes (checked-first (merge_bytes t) a.0))

@@ -11,6 +11,7 @@ use lib.Dec.{eqb}
 use lib.ListN.{length, get_or, set, drop, length-set, get_or-eq_default}
 use lib.Seq.{get_or-set_same, get_or-set_other}
 use borrow.Author.Tests.{eqb-true, eqb-false, not-true}
+use Rattle.std.specs.Prelude.{Ok}
 use Rattle.value.specs.declared.Net.{Net}
 use Rattle.value.specs.declared.Slot.{Slot}
 use Rattle.value.specs.declared.Driver.{Driver}
@@ -22,12 +23,10 @@ use Rattle.cell.specs.Records.{records_of}
 use Rattle.basics.specs.Lists.{tabulate, those, has, All}
 use Rattle.basics.proofs.Tables.{tabulate-length, tabulate-at}
 use Rattle.loops.proofs.Rank.{rank as rank_of}
-use Rattle.refusals.specs.declared.Verdict.TheVariants.{Pass}
 use Rattle.netlist.specs.Shape.{visit_mut, has_effects}
 use Rattle.netlist.specs.Netlist.{Netlist, cell_in, run, start_of, output_of}
 use Rattle.order.specs.Orders.{iter_cells_topo}
-use Rattle.numberer.specs.declared.Found.{Found}
-use Rattle.numberer.specs.declared.Found.TheVariants.{Nothing, At}
+use Rattle.std.proofs.Common.{Option, Some, None}
 use Rattle.numberer.specs.Numberer.{Entry, seek}
 use Rattle.design.specs.Queue.{unchanged, net_in, driven_to, map_net_new}
 use Rattle.merge.specs.Merge.{key_of, Merging, find_or_insert, find_or_insert_all, merge_cell, merge_cells, merging}
@@ -148,7 +147,7 @@ module _ (d : Netlist) (rank : ℕ → ℕ) (sound : Sound d rank) where
       own = λ x. get_or-set_other rs s r.slot n x (not-s r.slot r.before) ∙ r.own x;
     }
 
-    replaced-chains : (m : Merging) (key : Cell) (n : Net) → Chains done m → Root done m.design.replaced n → Chains now-done (find_or_insert m key s (At n))
+    replaced-chains : (m : Merging) (key : Cell) (n : Net) → Chains done m → Root done m.design.replaced n → Chains now-done (find_or_insert m key s (Some n))
     replaced-chains m key n c r =
         let rs : List Net = m.design.replaced in
         record {
@@ -168,7 +167,7 @@ module _ (d : Netlist) (rank : ℕ → ℕ) (sound : Sound d rank) where
         by i x (inl f) = inl f
         by i x (inr r) = inr (root-set m.design.replaced n (get_or m.design.replaced i x) r)
 
-    entered-chains : (m : Merging) (key : Cell) → Chains done m → Chains now-done (find_or_insert m key s Nothing)
+    entered-chains : (m : Merging) (key : Cell) → Chains done m → Chains now-done (find_or_insert m key s None)
     unfolding All
     entered-chains m key c =
         let rs : List Net = m.design.replaced in
@@ -186,10 +185,10 @@ module _ (d : Netlist) (rank : ℕ → ℕ) (sound : Sound d rank) where
         by i x (inl f) = inl f
         by i x (inr r) = inr (root-later m.design.replaced (get_or m.design.replaced i x) r)
 
-    pub numbered-chains : (m : Merging) (key : Cell) (f : Found) → seek m.numberer key ≡ f → Chains done m → Chains now-done (find_or_insert m key s f)
-    numbered-chains m key (At n) e c =
+    pub numbered-chains : (m : Merging) (key : Cell) (f : Option Net) → seek m.numberer key ≡ f → Chains done m → Chains now-done (find_or_insert m key s f)
+    numbered-chains m key (Some n) e c =
         replaced-chains m key n c (seek_finds (λ k y. Root done m.design.replaced y) m.numberer key n c.known e)
-    numbered-chains m key Nothing e c = entered-chains m key c
+    numbered-chains m key None e c = entered-chains m key c
 
   find_or_insert-chains : (key : ℕ → Cell) (is done : List ℕ) (m : Merging) → All (λ i. i < total) is → OnceAfter done is → Chains done m
       → Chains (done ++ is) (find_or_insert_all m (map (λ i. (key i, i)) is))
@@ -285,7 +284,7 @@ module _ (d : Netlist) (rank : ℕ → ℕ) (sound : Sound d rank) where
   merged-ends n = merging-ends (gates d) [] (sym (append-nil (gates d))) n
 
 -- the same of an accepted ticket
-module _ (words : ℕ) (t : List ℕ) (pass : check_verdict words t ≡ Pass) where
+module _ (words : ℕ) (t : List ℕ) (pass : check_verdict words t ≡ Ok tt) where
   pub ticket-merging-ends : (before rest : List ℕ) → gates (decoded t) ≡ before ++ rest → (n : Net) → Ends (replaced_after (decoded t) before) n
   ticket-merging-ends = merging-ends (decoded t) (rank_of (records_of t)) (ticket-sound words t pass)
 

@@ -4,6 +4,7 @@ use mathlib.Core.List.{List, [], ◌∷◌}
 use Prim.Native.Nat.{ℕ}
 use native.Mathlib.Omega.{arith}
 use lib.ListN.{get_or}
+use Rattle.std.specs.Prelude.{Ok, Err}
 use Rattle.logic.specs.Levels.{level_of, eq_level}
 use Rattle.value.specs.Value.{eq_net, driver}
 use Rattle.cell.specs.declared.Record.{Record}
@@ -13,9 +14,7 @@ use Rattle.cell.specs.Operands.{field_of, is_operand, is_comb_edge, edge_at}
 use Rattle.cell.specs.Records.{record_of, record_at, records_of, bytes_of, cell_of}
 use Rattle.basics.specs.Lists.{tabulate, those, any_of, joined}
 use Rattle.loops.specs.Reach.{step_back, reaching_in, reaches, on_loop}
-use Rattle.refusals.specs.declared.Verdict.{Verdict}
-use Rattle.refusals.specs.declared.Verdict.TheVariants.{Pass, Refused}
-use Rattle.refusals.specs.Refusals.{figures, first_of, slot_by_slot}
+use Rattle.refusals.specs.Refusals.{figures, first_of, slot_by_slot, Verdict}
 use Rattle.checking.specs.Checking.{unknown_kind, reserved_field, follows, out_of_sequence, bit_out_of_sequence, undriven_field, kind_stages, field_stages, bit_stages, operand_stages, record_stages, loop_stages, size_group, record_group, loop_group, netlist_stages, check_stages}
 use Rattle.netlist.specs.Netlist.{netlist_of, ticket_of}
 use Rattle.levels.specs.Evaluate.{net_level, cell_level, round_of, levels_in, levels, given_levels, input_slots, output_slots, output_levels}
@@ -36,8 +35,8 @@ abbrev byte : ℕ → List ℕ → ℕ
 byte k bs = get_or bs k 9
 
 abbrev number : Verdict → ℕ
-number Pass = 0
-number (Refused r) = (figures r).number
+number (Ok u) = 0
+number (Err r) = (figures r).number
 
 -- a loop; a record more; an input's level for a constant's; 0 for an undefined level; an input less, which no output read; the reply for
 -- another level

@@ -20,8 +20,7 @@ use Rattle.netlist.specs.Shape.{visit, visit_mut, is_output, has_effects}
 use Rattle.netlist.specs.Netlist.{Netlist, cell_in, output_of}
 use Rattle.basics.specs.Lists.{those, All}
 use Rattle.order.specs.Orders.{iter_cells_topo}
-use Rattle.numberer.specs.declared.Found.{Found}
-use Rattle.numberer.specs.declared.Found.TheVariants.{Nothing, At}
+use Rattle.std.proofs.Common.{Option, Some, None}
 use Rattle.numberer.specs.Numberer.{Entry, seek}
 use Rattle.design.specs.Queue.{unchanged, net_in, driven_to, map_net_new}
 use Rattle.merge.specs.Merge.{key_of, Merging, find_or_insert, find_or_insert_all, merge_cell, merge_cells, merging}
@@ -127,8 +126,8 @@ module _ (d : Netlist) (rank : ℕ → ℕ) (sound : Sound d rank) where
       tt,
     )
 
-    numbered-sane : (m : Merging) (key : Cell) (s : ℕ) (f : Found) → Keyed (key, s) → Sane m → seek m.numberer key ≡ f → Sane (find_or_insert m key s f)
-    numbered-sane m key s (At n) k h e =
+    numbered-sane : (m : Merging) (key : Cell) (s : ℕ) (f : Option Net) → Keyed (key, s) → Sane m → seek m.numberer key ≡ f → Sane (find_or_insert m key s f)
+    numbered-sane m key s (Some n) k h e =
         let stands : Stands (v s) n =
         (let r : Stands (cell_value alg (net_value alg v) (own s) key) n = seek_finds (λ c m. Known (c, m)) m.numberer key n h.known e (own s) in
         record { value = r.value ∙ k.value (own s); driven = r.driven }) in
@@ -143,7 +142,7 @@ module _ (d : Netlist) (rank : ℕ → ℕ) (sound : Sound d rank) where
               (λ q. subst (λ (y : Net). Stands (v x) y) (sym (get_or-set_other rs s x n a (eqb-false x s q))) (h.replaces x a l o));
           known = h.known;
         }
-    numbered-sane m key s Nothing k h e = record {
+    numbered-sane m key s None k h e = record {
       cells = h.cells;
       long = h.long;
       replaces = h.replaces;

@@ -7,6 +7,7 @@ use native.Mathlib.Omega.{arith}
 use lib.Dec.{eqb}
 use lib.ListN.{length, get_or}
 use borrow.Author.Tests.{lt-ltb}
+use Rattle.std.specs.Prelude.{Ok}
 use Rattle.value.specs.declared.Net.{Net}
 use Rattle.value.specs.declared.ControlNet.TheVariants.{Pos, Neg}
 use Rattle.value.specs.declared.Driver.{Driver}
@@ -21,7 +22,6 @@ use Rattle.cell.specs.Records.{record_of, record_in, cell_record}
 use Rattle.basics.proofs.Tables.{tabulate-length, tabulate-at}
 use Rattle.loops.specs.Reach.{OnLoop}
 use Rattle.loops.proofs.Reach.{on_loop-false}
-use Rattle.refusals.specs.declared.Verdict.TheVariants.{Pass}
 use Rattle.refusals.specs.Refusals.{first_of}
 use Rattle.checking.specs.Checking.{unknown_kind, reserved_field, bit_out_of_sequence, undriven, undriven_field, netlist_stages}
 use Rattle.checking.proofs.Groups.{fields-driven, RecordPasses, kind-exactly, field-exactly, bit-exactly, operand-exactly, records-exactly, loops-exactly, netlist-exactly}
@@ -114,7 +114,7 @@ module _ (d : Netlist) (rank : ℕ → ℕ) (good : Sound d rank) where
         operands = (operand-exactly rs s).1 (λ f. ap (λ (r : Record). undriven_field rs r f) e ∙ operands-driven s l f);
       }
 
-  pub sound-passes : first_of (netlist_stages (encode d)) ≡ Pass
+  pub sound-passes : first_of (netlist_stages (encode d)) ≡ Ok tt
   sound-passes =
       (netlist-exactly rs).1
       (record { records = (records-exactly rs).1 record-passes; loops = (loops-exactly rs).1 (λ s l. on_loop-false rs s (no_loop s)) })

@@ -7,12 +7,12 @@ use native.Mathlib.Omega.{arith}
 use lib.Dec.{ltb}
 use lib.ListN.{length, get_or}
 use borrow.Author.Tests.{ltb-false}
+use Rattle.std.specs.Prelude.{Ok}
 use Rattle.logic.specs.declared.Trit.{Trit}
 use Rattle.logic.specs.declared.Trit.TheVariants.{Undef}
 use Rattle.cell.specs.Records.{record_at, records_of, cell_record}
 use Rattle.cell.proofs.Lists.{records-length, records-at}
 use Rattle.loops.proofs.Rank.{rank}
-use Rattle.refusals.specs.declared.Verdict.TheVariants.{Pass}
 use Rattle.refusals.specs.Refusals.{first_of}
 use Rattle.checking.specs.Checking.{netlist_stages}
 use Rattle.checking.proofs.Groups.{SizesPass, CheckPasses, sizes-exactly, check-exactly}
@@ -24,7 +24,7 @@ use Rattle.levels_laws.proofs.Levels.{levels-are, levels-only}
 use Rattle.kept.proofs.Sound.{Sound}
 use Rattle.kept.proofs.Accepted.{netlist-length, netlist-record, accepted-sound}
 
-module _ (words : ℕ) (t : List ℕ) (pass : check_verdict words t ≡ Pass) where
+module _ (words : ℕ) (t : List ℕ) (pass : check_verdict words t ≡ Ok tt) where
   groups : CheckPasses words t
   unfolding check_verdict
   groups = (check-exactly words t).0 pass
@@ -32,7 +32,7 @@ module _ (words : ℕ) (t : List ℕ) (pass : check_verdict words t ≡ Pass) wh
   sizes : SizesPass words t
   sizes = (sizes-exactly words t).0 groups.sizes
 
-  pub ticket-passes : first_of (netlist_stages (records_of t)) ≡ Pass
+  pub ticket-passes : first_of (netlist_stages (records_of t)) ≡ Ok tt
   ticket-passes = groups.netlist
 
   pub ticket-work : ltb words 16384 ≡ false
@@ -63,9 +63,9 @@ module _ (words : ℕ) (t : List ℕ) (pass : check_verdict words t ≡ Pass) wh
   ticket-sound = accepted-sound (records_of t) (omega (arith, few)) ticket-passes
 
 -- the levels of an accepted ticket fit all its cells, and no others do
-pub ticket-levels : (words : ℕ) (t : List ℕ) → check_verdict words t ≡ Pass → (given : List Trit) → LevelsFit (decoded t).cells given (levels (decoded t).cells given)
+pub ticket-levels : (words : ℕ) (t : List ℕ) → check_verdict words t ≡ Ok tt → (given : List Trit) → LevelsFit (decoded t).cells given (levels (decoded t).cells given)
 ticket-levels words t pass given = levels-are (decoded t).cells (rank (records_of t)) (ticket-sound words t pass).ranked given
 
-pub ticket-levels-only : (words : ℕ) (t : List ℕ) → check_verdict words t ≡ Pass → (given ls : List Trit) → LevelsFit (decoded t).cells given ls
+pub ticket-levels-only : (words : ℕ) (t : List ℕ) → check_verdict words t ≡ Ok tt → (given ls : List Trit) → LevelsFit (decoded t).cells given ls
     → (s : ℕ) → s < length (decoded t).cells → get_or ls s Undef ≡ get_or (levels (decoded t).cells given) s Undef
 ticket-levels-only words t pass given ls fit = levels-only (decoded t).cells (rank (records_of t)) (ticket-sound words t pass).ranked given ls fit

@@ -3,55 +3,60 @@
 #![tactic(auto)]
 
 ghost use Rattle.std.specs.Prelude.{◌≡◌, not, eqb};
-ghost use Rattle.kinds.specs.Kinds.{sort_of, row_of, kind_table, kind_of, use_of, is_operand_use, is_used, commutes, is_source_sort};
-
-use basics::{both, either};
+ghost use Rattle.kinds.specs.Kinds.{sort_of, is_known, row_of, kind_table, kind_of, field_number, DecodesField, use_of, is_operand_use, is_used, commutes, is_source_sort};
 
 // What a kind keeps in a field: nothing (the field is 0), a label, or an operand, which is a net.
-#[derive(Clone, Copy)]
+#[derive(Clone, Copy, PartialEq, Eq)]
 pub enum Use {
     Unused,
     Label,
     Operand,
 }
 
-// The sorts of cells, in the order of their kind numbers.
-#[derive(Clone, Copy)]
+// The sorts of cells. The number is the byte of the kind in a record.
+#[derive(Clone, Copy, PartialEq, Eq)]
 pub enum Sort {
-    Unknown,
-    Input,
-    Output,
-    Buf,
-    Not,
-    And,
-    Or,
-    Xor,
-    Mux,
-    Aig,
+    Input = 1,
+    Output = 2,
+    Buf = 3,
+    Not = 4,
+    And = 5,
+    Or = 6,
+    Xor = 7,
+    Mux = 8,
+    Aig = 9,
 }
 
-pub const INPUT: u8 = 1;
+// The fields of a record. The number is the one that refusal 7 gives.
+#[derive(Clone, Copy, PartialEq, Eq)]
+pub enum Field {
+    A = 1,
+    B = 2,
+    C = 3,
+}
 
-pub const OUTPUT: u8 = 2;
+// A number that names no field.
+#[derive(Clone, Copy, Debug, PartialEq, Eq)]
+pub struct NoField(pub u32);
 
-pub const BUF: u8 = 3;
+impl TryFrom<u32> for Field {
+    type Error = NoField;
 
-pub const NOT: u8 = 4;
+    ghost try_from_gives = { DecodesField };
 
-pub const AND: u8 = 5;
-
-pub const OR: u8 = 6;
-
-pub const XOR: u8 = 7;
-
-pub const MUX: u8 = 8;
-
-pub const AIG: u8 = 9;
+    fn try_from(f: u32) -> Result<Field, NoField> {
+        match f {
+            1 => Ok(Field::A),
+            2 => Ok(Field::B),
+            3 => Ok(Field::C),
+            _ => Err(NoField(f)),
+        }
+    }
+}
 
 // A row of the kind table.
 #[derive(Clone, Copy)]
 pub struct Kind {
-    pub known: bool,
     pub a: Use,
     pub b: Use,
     pub c: Use,
@@ -64,20 +69,21 @@ pub struct Kind {
     pub gates: u32,
 }
 
-pub fn sort_of(kind: u8) -> Sort
+// None for a byte that is no kind.
+pub fn sort_of(kind: u8) -> Option<Sort>
     ensures { result ≡ sort_of kind }
 {
     match kind {
-        1 => Sort::Input,
-        2 => Sort::Output,
-        3 => Sort::Buf,
-        4 => Sort::Not,
-        5 => Sort::And,
-        6 => Sort::Or,
-        7 => Sort::Xor,
-        8 => Sort::Mux,
-        9 => Sort::Aig,
-        _ => Sort::Unknown,
+        1 => Some(Sort::Input),
+        2 => Some(Sort::Output),
+        3 => Some(Sort::Buf),
+        4 => Some(Sort::Not),
+        5 => Some(Sort::And),
+        6 => Some(Sort::Or),
+        7 => Some(Sort::Xor),
+        8 => Some(Sort::Mux),
+        9 => Some(Sort::Aig),
+        _ => None,
     }
 }
 
@@ -85,7 +91,6 @@ fn row(a: Use, b: Use, c: Use, flags: u8, one_bit: bool, common_a: bool, gates: 
     ensures { result ≡ row_of a b c flags one_bit common_a gates }
 {
     Kind {
-        known: true,
         a,
         b,
         c,
@@ -101,16 +106,6 @@ fn kind_table(s: Sort) -> Kind
     ensures { result ≡ kind_table s }
 {
     match s {
-        Sort::Unknown => Kind {
-            known: false,
-            a: Use::Unused,
-            b: Use::Unused,
-            c: Use::Unused,
-            flags: 0,
-            one_bit: false,
-            common_a: false,
-            gates: 0,
-        },
         Sort::Input => row(Use::Label, Use::Unused, Use::Unused, 0, false, true, 0),
         Sort::Output => row(Use::Operand, Use::Label, Use::Unused, 0, true, false, 0),
         Sort::Buf => row(Use::Operand, Use::Unused, Use::Unused, 0, false, false, 0),
@@ -123,84 +118,89 @@ fn kind_table(s: Sort) -> Kind
     }
 }
 
+// The row of a kind; what is no kind uses nothing. No Option: those who read a row have to read one for any byte.
 pub fn kind_of(kind: u8) -> Kind
     ensures { result ≡ kind_of kind }
 {
-    kind_table(sort_of(kind))
-}
-
-// What a kind keeps in a field, by the field's number: 1 is a, 2 is b, 3 is c.
-pub fn use_of(k: Kind, f: u32) -> Use
-    ensures { result ≡ use_of k f }
-{
-    match f {
-        1 => k.a,
-        2 => k.b,
-        3 => k.c,
-        _ => Use::Unused,
+    match sort_of(kind) {
+        Some(s) => kind_table(s),
+        None => row(Use::Unused, Use::Unused, Use::Unused, 0, false, false, 0),
     }
 }
 
-pub fn is_operand_use(u: Use) -> bool
-    ensures { result ≡ is_operand_use u }
-{
-    match u {
-        Use::Unused => false,
-        Use::Label => false,
-        Use::Operand => true,
+impl Kind {
+    // What it keeps in a field.
+    #[tactic(auto, unfolding(crate::specs::Kinds::use_of))]
+    pub fn use_of(self, f: Field) -> Use
+        ensures { result ≡ use_of self (field_number f) }
+    {
+        match f {
+            Field::A => self.a,
+            Field::B => self.b,
+            Field::C => self.c,
+        }
     }
 }
 
-// Tests of the table by ranges of kind numbers: they do not branch on the kind, which is hard to predict.
+impl Use {
+    pub fn is_operand(self) -> bool
+        ensures { result ≡ is_operand_use self }
+    {
+        self == Use::Operand
+    }
+}
+
+// Tests of the table by ranges of kind numbers: they do not branch on the kind, which is hard to predict. (A single `2 | 5..=9` would, in
+// a choice between two numbers.)
 pub fn is_known(kind: u8) -> bool
-    ensures { result ≡ (kind_of kind).known }
+    ensures { result ≡ is_known kind }
 {
-    both(1 <= kind, kind <= 9)
+    matches!(kind, 1..=9)
 }
 
 // Whether field a, b or c holds a net.
 pub fn net_in_a(kind: u8) -> bool
     ensures { result ≡ is_operand_use (kind_of kind).a }
 {
-    both(2 <= kind, kind <= 9)
+    matches!(kind, 2..=9)
 }
 
 pub fn net_in_b(kind: u8) -> bool
     ensures { result ≡ is_operand_use (kind_of kind).b }
 {
-    both(5 <= kind, kind <= 9)
+    matches!(kind, 5..=9)
 }
 
 pub fn net_in_c(kind: u8) -> bool
     ensures { result ≡ is_operand_use (kind_of kind).c }
 {
-    kind == 8
+    kind == Sort::Mux as u8
 }
 
 // Whether field b holds anything.
 pub fn uses_b(kind: u8) -> bool
     ensures { result ≡ is_used (kind_of kind).b }
 {
-    either(kind == 2, both(5 <= kind, kind <= 9))
+    kind == Sort::Output as u8 || matches!(kind, 5..=9)
 }
 
 // Whether a flag may be set.
 pub fn has_flags(kind: u8) -> bool
     ensures { result ≡ not (eqb (kind_of kind).flags 0) }
 {
-    kind == 9
+    kind == Sort::Aig as u8
 }
 
 // Whether operands a and b may be exchanged.
 pub fn operands_commute(kind: u8) -> bool
     ensures { result ≡ commutes (sort_of kind) }
 {
-    either(both(5 <= kind, kind <= 7), kind == 9)
+    kind == Sort::Aig as u8 || matches!(kind, 5..=7)
 }
 
 // Whether the level of the cell is given.
 pub fn is_source(kind: u8) -> bool
     ensures { result ≡ is_source_sort (sort_of kind) }
 {
-    kind == 1
+    kind == Sort::Input as u8
 }

@@ -83,7 +83,6 @@ given-length (c ∷ cs) bs = ap suc (given-length cs (cond (is_input c) (drop 1 
 
 -- the loop that places the stimulus
 pub record Placing (n : ℕ) (bs ws₀ ws : List ℕ) (s k : ℕ) : Type 0 where
-  pub upto : s ≤ n
   pub long : 16384 ≤ length ws₀
   pub small : k ≤ s
   pub counted : k ≡ inputs_before (cells_in n ws₀) s
@@ -93,7 +92,7 @@ pub record Placing (n : ℕ) (bs ws₀ ws : List ℕ) (s k : ℕ) : Type 0 where
 pub placing-none : (n : ℕ) (bs ws : List ℕ) → 16384 ≤ length ws → Placing n bs ws ws 0 0
 unfolding inputs_before
 placing-none n bs ws h =
-    record { upto = omega arith; long = h; small = omega arith; counted = refl; placed = λ u l. absurd (omega arith); frame = within_none figures_at mixes_at ws }
+    record { long = h; small = omega arith; counted = refl; placed = λ u l. absurd (omega arith); frame = within_none figures_at mixes_at ws }
 
 module _ (n : ℕ) (bs ws₀ ws : List ℕ) (s k : ℕ) (g : Placing n bs ws₀ ws s k) where
   module _ (few : n ≤ 512) (l : s < n) where
@@ -114,7 +113,6 @@ module _ (n : ℕ) (bs ws₀ ws : List ℕ) (s k : ℕ) (g : Placing n bs ws₀ 
         let z : k ≤ s = g.small in
         let long : 16384 ≤ length ws = let m : 16384 ≤ length ws₀ = g.long in omega (arith, g.frame.same) in
         subst (λ (vs : List ℕ). Placing n bs ws₀ vs (s + 1) (k + j)) (sym h) (record {
-          upto = omega arith;
           long = g.long;
           small = omega arith;
           counted = ap₂ ◌+◌ g.counted (q ∙ ap (λ (b : Bool). cond b 1 0) is-input)
@@ -138,9 +136,6 @@ module _ (n : ℕ) (bs ws₀ ws : List ℕ) (s k : ℕ) (g : Placing n bs ws₀ 
       ext_get_or Undef (levels_at n ws) (given_levels (cells_in n ws₀) bs)
       (levels-length n ws ∙ sym (given-length (cells_in n ws₀) bs ∙ cells-length n ws₀))
       (λ u m. let l : u < n = let e : length (levels_at n ws) ≡ n = levels-length n ws in omega arith in level-read n ws u l ∙ g.placed u (omega arith))
-
-  pub placing-frame : Within figures_at mixes_at ws₀ ws
-  placing-frame = g.frame
 
 -- the bit order, then the stimulus, then the fold
 module _ (n : ℕ) (ws ws₁ ws₂ ws₃ bs : List ℕ) (count : ℕ) (sorted : Sorts n ws ws₁ count) (placed : Within figures_at mixes_at ws₁ ws₂) where

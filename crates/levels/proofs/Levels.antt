@@ -81,20 +81,18 @@ fold-snoc f (u ∷ ss) s vs = fold-snoc f ss s (set vs u (f vs u))
 
 -- the loop that folds
 pub record Folding (n count : ℕ) (ws₀ ws : List ℕ) (i : ℕ) : Type 0 where
-  pub upto : i ≤ count
   pub folded : levels_at n ws ≡ fold_in (slot_level (cells_in n ws₀)) (words_in order_at i ws₀) (levels_at n ws₀)
   pub frame : Within figures_at mixes_at ws₀ ws
 
 pub folding-none : (n count : ℕ) (ws : List ℕ) → Folding n count ws ws 0
 unfolding words_in tabulate fold_in
-folding-none n count ws = record { upto = omega arith; folded = refl; frame = within_none figures_at mixes_at ws }
+folding-none n count ws = record { folded = refl; frame = within_none figures_at mixes_at ws }
 
 module _ (n count : ℕ) (ws₀ ws : List ℕ) (i : ℕ) (g : Folding n count ws₀ ws i) where
   pub folding-more : n ≤ 512 → count ≤ 1024 → i < count → (s : ℕ) → s ≡ get_or ws (order_at + i) 0 → (ws' : List ℕ)
       → levels_at n ws' ≡ set (levels_at n ws) s (slot_level (cells_in n ws) (levels_at n ws) s) → Within figures_at mixes_at ws ws' → Folding n count ws₀ ws' (i + 1)
   unfolding words_in tabulate
   folding-more few room l s e ws' f w = record {
-    upto = omega arith;
     folded = f ∙ ap (λ (rs : List _). set (levels_at n ws) s (slot_level (map cell_of rs) (levels_at n ws) s)) (records-kept figures_at mixes_at ws₀ ws g.frame n (omega arith))
         ∙ ap₂ (λ (ls : List Trit) (u : ℕ). set ls u (slot_level (cells_in n ws₀) ls u)) g.folded (e ∙ g.frame.before (order_at + i) (omega arith))
         ∙ sym (fold-snoc (slot_level (cells_in n ws₀)) (words_in order_at i ws₀) (get_or ws₀ (order_at + i) 0) (levels_at n ws₀))
@@ -102,9 +100,6 @@ module _ (n count : ℕ) (ws₀ ws : List ℕ) (i : ℕ) (g : Folding n count ws
     frame = within-then figures_at mixes_at ws₀ ws ws' g.frame w;
   }
 
-  pub folding-all : count ≤ i → levels_at n ws ≡ fold_in (slot_level (cells_in n ws₀)) (words_in order_at count ws₀) (levels_at n ws₀)
-  folding-all h =
-      g.folded ∙ ap (λ (k : ℕ). fold_in (slot_level (cells_in n ws₀)) (words_in order_at k ws₀) (levels_at n ws₀)) (let u : i ≤ count = g.upto in omega arith)
-
-  pub folding-frame : Within figures_at mixes_at ws₀ ws
-  folding-frame = g.frame
+  pub folding-all : i ≤ count → count ≤ i → levels_at n ws ≡ fold_in (slot_level (cells_in n ws₀)) (words_in order_at count ws₀) (levels_at n ws₀)
+  folding-all m h =
+      g.folded ∙ ap (λ (k : ℕ). fold_in (slot_level (cells_in n ws₀)) (words_in order_at k ws₀) (levels_at n ws₀)) (omega arith)

@@ -1,12 +1,13 @@
 -- Slots of a kind, and how many there are. Assumes nothing.
 use mathlib.Core.Path.{◌≡◌, refl, sym, ap, ap₂, ◌∙◌}
-use mathlib.Core.Bool.{true, false, cond}
+use mathlib.Core.Bool.{Bool, true, false, cond}
 use mathlib.Core.List.{List}
 use Prim.Native.Nat.{ℕ, ◌+◌, ◌<◌, ◌≤◌}
 use native.Mathlib.Omega.{arith}
 use borrow.Author.Tests.{eq-eqb, ne_eqb}
 use lib.Dec.{eqb}
 use lib.ListN.{length}
+use Rattle.std.specs.Int.{from_bool}
 use Rattle.cell.specs.declared.Record.{Record}
 use Rattle.cell.specs.Records.{record_of}
 use Rattle.basics.specs.Lists.{tabulate, slots, those}
@@ -52,27 +53,29 @@ module _ (n : ℕ) (ws : List ℕ) where
   output-slots =
       rw (cells-length n ws) (slots_same _ _ n (λ s l. ap is_output (cell_at n ws s l) ∙ output-kind (word_record ws s))) ∙ sym (kind-slots 2)
 
+one-if : (b : Bool) → (from_bool b ≡ cond b 1 0) × (from_bool b ≤ 1)
+one-if true = (refl, omega arith)
+one-if false = (refl, omega arith)
+
 -- the loop that counts
 pub record Counting (ws : List ℕ) (n kind s count : ℕ) : Type 0 where
-  pub upto : s ≤ n
   pub few : count ≤ s
   pub counted : count ≡ length (those (λ u. eqb (word_record ws u).kind kind) (slots s))
 
 pub counts-none : (ws : List ℕ) (n kind : ℕ) → Counting ws n kind 0 0
 unfolding tabulate those
-counts-none ws n kind = record { upto = omega arith; few = omega arith; counted = refl }
+counts-none ws n kind = record { few = omega arith; counted = refl }
 
 module _ (ws : List ℕ) (n kind s count : ℕ) (g : Counting ws n kind s count) where
-  pub counts-more : s < n → (r : Record) → r ≡ word_record ws s → (k : ℕ) → k ≡ cond (eqb r.kind kind) 1 0 → k ≤ 1 → Counting ws n kind (s + 1) (count + k)
-  counts-more l r e k f m =
-      let q : k ≡ cond (eqb (word_record ws s).kind kind) 1 0 = f ∙ ap (λ (x : Record). cond (eqb x.kind kind) 1 0) e in
+  pub counts-more : s < n → (r : Record) → r ≡ word_record ws s → (k : ℕ) → k ≡ from_bool (eqb r.kind kind) → Counting ws n kind (s + 1) (count + k)
+  counts-more l r e k f =
+      let q : k ≡ cond (eqb (word_record ws s).kind kind) 1 0 = f ∙ (one-if (eqb r.kind kind)).0 ∙ ap (λ (x : Record). cond (eqb x.kind kind) 1 0) e in
       record {
-        upto = omega arith;
-        few = let u : count ≤ s = g.few in omega arith;
+        few = omega (arith, g.few, f, (one-if (eqb r.kind kind)).1);
         counted = ap₂ ◌+◌ g.counted q ∙ sym (count-more (λ u. eqb (word_record ws u).kind kind) s);
       }
 
-  pub counts_all : n ≤ s → count ≡ length (of_kind kind (records_in n ws))
-  counts_all h =
-      g.counted ∙ ap (λ (m : ℕ). length (those (λ u. eqb (word_record ws u).kind kind) (slots m))) (let u : s ≤ n = g.upto in omega arith)
+  pub counts_all : s ≤ n → n ≤ s → count ≡ length (of_kind kind (records_in n ws))
+  counts_all m h =
+      g.counted ∙ ap (λ (m : ℕ). length (those (λ u. eqb (word_record ws u).kind kind) (slots m))) (omega arith)
       ∙ sym (ap length (kind-slots n ws kind))

@@ -8,29 +8,21 @@ ghost use Rattle.levels.specs.Evaluate.{net_level, control_level, cell_level, gi
 ghost use Rattle.levels.specs.Fold.{cells_in, of_kind, levels_at, input_at, placed_level, fold_in, slot_level, bit_levels};
 
 use cell::Cell;
+use kinds::Sort;
 use logic::Trit;
 use netlist::area;
 use value::{ControlNet, Driver, Net, Slot};
 
-// How many of the first n records have a kind.
+// How many of the first n records have a kind, by its byte: a `Sort` would be a narrower parameter.
 pub fn count_kind(work: &[u32], n: u32, kind: u8) -> u32
     requires { n ≤ 512 }
     ensures { result ≡ length (of_kind kind (records_in n work.now)) }
 {
-    let mut s: u32 = 0;
     let mut count: u32 = 0;
-    while s < n {
-        count += one(netlist::record_in(work, Slot(s)).kind == kind);
-        s += 1;
+    for s in 0..n {
+        count += u32::from(netlist::record_in(work, Slot(s)).kind == kind);
     }
     count
-}
-
-fn one(b: bool) -> u32
-    ensures value { result ≡ cond b 1 0 }
-    ensures upper_bound { result ≤ 1 }
-{
-    if b { 1 } else { 0 }
 }
 
 // The level of a slot; past the first n it is undefined.
@@ -39,7 +31,7 @@ pub fn level_at(work: &[u32], n: u32, s: Slot) -> Trit
 {
     let i = s.0;
     if i < n {
-        return Trit::from_byte(basics::word(work, area::FIGURES + (i as usize)));
+        return Trit::from(basics::get_or(work, area::FIGURES + (i as usize), 0));
     }
     Trit::Undef
 }
@@ -47,7 +39,7 @@ pub fn level_at(work: &[u32], n: u32, s: Slot) -> Trit
 fn put_level(work: &mut [u32], s: Slot, t: Trit)
     ensures { work.new ≡ set work.old (figures_at + s.0) (byte_of t) }
 {
-    basics::put(work, area::FIGURES + (s.0 as usize), t.to_byte());
+    basics::put(work, area::FIGURES + (s.0 as usize), u32::from(t));
 }
 
 fn net_level(work: &[u32], n: u32, x: Net) -> Trit
@@ -64,7 +56,7 @@ fn control_level(work: &[u32], n: u32, x: ControlNet) -> Trit
 {
     match x {
         ControlNet::Pos(y) => net_level(work, n, y),
-        ControlNet::Neg(y) => net_level(work, n, y).not(),
+        ControlNet::Neg(y) => !net_level(work, n, y),
     }
 }
 
@@ -76,15 +68,15 @@ fn cell_level(work: &[u32], n: u32, own: Trit, c: Cell) -> Trit
         Cell::Input(_) => own,
         Cell::Output(x, _) => net_level(work, n, x),
         Cell::Buf(x) => net_level(work, n, x),
-        Cell::Not(x) => net_level(work, n, x).not(),
-        Cell::And(x, y) => net_level(work, n, x).and(net_level(work, n, y)),
-        Cell::Or(x, y) => net_level(work, n, x).or(net_level(work, n, y)),
-        Cell::Xor(x, y) => net_level(work, n, x).xor(net_level(work, n, y)),
+        Cell::Not(x) => !net_level(work, n, x),
+        Cell::And(x, y) => net_level(work, n, x) & net_level(work, n, y),
+        Cell::Or(x, y) => net_level(work, n, x) | net_level(work, n, y),
+        Cell::Xor(x, y) => net_level(work, n, x) ^ net_level(work, n, y),
         Cell::Mux(x, y, z) => net_level(work, n, x).mux(
             net_level(work, n, y),
             net_level(work, n, z),
         ),
-        Cell::Aig(p, q) => control_level(work, n, p).and(control_level(work, n, q)),
+        Cell::Aig(p, q) => control_level(work, n, p) & control_level(work, n, q),
     }
 }
 
@@ -111,11 +103,9 @@ fn fold(work: &mut [u32], n: u32, count: u32)
     ensures work_after { levels_at n work.new ≡ fold_in (slot_level (cells_in n work.old)) (words_in order_at count work.old) (levels_at n work.old) }
     ensures within { Within figures_at mixes_at work.old work.new }
 {
-    let mut i: u32 = 0;
-    while i < count {
-        let s = basics::word(work, area::ORDER + (i as usize));
+    for i in 0..count {
+        let s = basics::get_or(work, area::ORDER + (i as usize), 0);
         update(work, n, Slot(s));
-        i += 1;
     }
 }
 
@@ -125,7 +115,7 @@ fn stimulus_level(stimulus: &[u8], k: u32) -> Trit
 {
     let i = k as usize;
     if i < stimulus.len() {
-        return Trit::from_byte(basics::byte(stimulus, i) as u32);
+        return Trit::from(basics::get_or(stimulus, i, 0) as u32);
     }
     Trit::Undef
 }
@@ -137,7 +127,7 @@ fn place_at(work: &mut [u32], s: Slot, stimulus: &[u8], k: u32) -> u32
     ensures work_after { work.new ≡ set work.old (figures_at + s.0) (byte_of (placed_level work.old s.0 stimulus.now k)) }
 {
     let kind = netlist::record_in(work, s).kind;
-    if kind == kinds::INPUT {
+    if kind == Sort::Input as u8 {
         put_level(work, s, stimulus_level(stimulus, k));
         return 1;
     }
@@ -152,11 +142,9 @@ fn place(work: &mut [u32], n: u32, stimulus: &[u8])
     ensures work_after { levels_at n work.new ≡ given_levels (cells_in n work.old) stimulus.now }
     ensures within { Within figures_at mixes_at work.old work.new }
 {
-    let mut s: u32 = 0;
     let mut k: u32 = 0;
-    while s < n {
+    for s in 0..n {
         k += place_at(work, Slot(s), stimulus, k);
-        s += 1;
     }
 }
 

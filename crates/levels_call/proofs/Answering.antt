@@ -4,6 +4,7 @@ use mathlib.Core.List.{List, [], ◌∷◌, ◌++◌, map, append_assoc}
 use Prim.Native.Nat.{ℕ, ◌/◌, ◌<◌, ◌≤◌}
 use native.Mathlib.Omega.{arith}
 use lib.ListN.{length, get_or, drop, length-map}
+use Rattle.std.specs.Prelude.{Ok, Err, Result}
 use Rattle.logic.specs.declared.Trit.{Trit}
 use Rattle.logic.specs.declared.Trit.TheVariants.{Undef}
 use Rattle.logic.specs.Levels.{byte_of}
@@ -22,19 +23,13 @@ use Rattle.kept.proofs.Accepted.{accepted-sound}
 use Rattle.fold_laws.proofs.Levels.{bit-outputs}
 use Rattle.refusals.specs.declared.Refusal.{Refusal}
 use Rattle.refusals.specs.declared.Refusal.TheVariants.{ShortReply}
-use Rattle.refusals.specs.declared.Verdict.{Verdict}
-use Rattle.refusals.specs.declared.Verdict.TheVariants as verdict
 use Rattle.refusals.specs.Refusals.{first_of}
 use Rattle.checking.specs.Checking.{check_stages}
-use Rattle.calls.specs.declared.Written.{Written}
-use Rattle.calls.specs.declared.Written.TheVariants.{Accepted, Refused}
-use Rattle.calls.specs.Answers.{written_by}
-use Rattle.calls.specs.Work.{cleared}
-use Rattle.calls.specs.Calls.{put, room, decoded, level_bytes, stimulus_stages, level_verdict, level_answer, level_reply}
-use Rattle.delivery.specs.inner.Delivery.{Passed, Delivers, Begins}
+use Rattle.calls.specs.Answers.{answer_by}
+use Rattle.calls.specs.Calls.{put, room, decoded, level_bytes, stimulus_stages, level_verdict}
+use Rattle.delivery.specs.inner.Delivery.{Passed, Delivers}
 use Rattle.delivery.proofs.Deciding.{refused-decides, passed-decides}
 use Rattle.delivery.proofs.Delivering.{delivers-none, delivers-all}
-use Rattle.delivery.proofs.Shell.{Steps, called-written}
 use Rattle.levels_call.specs.inner.Levels.{written_levels, bit_bytes, level_stages, Levels}
 
 -- 12, or the levels
@@ -53,7 +48,7 @@ module _ (n : ℕ) (ws bs reply : List ℕ) (count : ℕ) (e : count ≡ length 
   bytes_count : length bytes ≡ count
   bytes_count = ap length bytes-are ∙ length-map (of_kind 2 (records_in n ws)) _ ∙ sym e
 
-  pub short-reply : length reply < count → Delivers bytes ws ws reply reply (Refused ShortReply)
+  pub short-reply : length reply < count → Delivers bytes ws ws reply reply (Err ShortReply)
   short-reply h = delivers-none bytes ws ws reply count bytes_count refl h
 
   module _ (ws' : List ℕ) (w : Within visited_at mixes_at ws ws') (few : n ≤ 512) where
@@ -64,7 +59,7 @@ module _ (n : ℕ) (ws bs reply : List ℕ) (count : ℕ) (e : count ≡ length 
     reply-room h = rw outputs-kept (omega (arith, e))
 
     pub levels-written : count ≤ length reply → levels_at n ws' ≡ bit_levels (cells_in n ws) (given_levels (cells_in n ws) bs)
-        → (reply' : List ℕ) → reply' ≡ put reply (written_levels n ws') → Delivers bytes ws ws' reply reply' (Accepted count)
+        → (reply' : List ℕ) → reply' ≡ put reply (written_levels n ws') → Delivers bytes ws ws' reply reply' (Ok count)
     unfolding written_levels
     levels-written h f reply' g =
         delivers-all bytes ws ws' reply count bytes_count (within-drop visited_at mixes_at 16384 ws ws' (omega arith) w) h reply'
@@ -81,42 +76,34 @@ module _ (t ws₀ : List ℕ) (p : Passed t ws₀) (stimulus reply : List ℕ) w
   ranked : Ranked cells (rank (records_of t))
   ranked = (accepted-sound (records_of t) (let few : length t / 16 ≤ 512 = p.few in omega (arith, records-length t)) p.pass).ranked
 
-  module _ (n : ℕ) (ws : List ℕ) (loaded : records_in n ws ≡ records_of t) (frame : Within 0 visited_at ws₀ ws) (v : Verdict)
-      (v-is : v ≡ first_of (stimulus_stages (cells_in n ws) stimulus)) where
+  module _ (n : ℕ) (ws : List ℕ) (loaded : records_in n ws ≡ records_of t) (frame : Within 0 visited_at ws₀ ws) where
     same-cells : cells_in n ws ≡ cells
     unfolding netlist_of
     same-cells = ap (map cell_of) loaded
 
-    decided : v ≡ first_of (stimulus_stages cells stimulus)
-    decided = v-is ∙ ap (λ (cs : List Cell). first_of (stimulus_stages cs stimulus)) same-cells
+    same-verdict : first_of (stimulus_stages (cells_in n ws) stimulus) ≡ first_of (stimulus_stages cells stimulus)
+    same-verdict = ap (λ (cs : List Cell). first_of (stimulus_stages cs stimulus)) same-cells
 
     behind : drop 16384 ws ≡ drop 16384 ws₀
     behind = within-drop 0 visited_at 16384 ws₀ ws (omega arith) frame
 
-    pub stimulus-refused : (x : Refusal) → v ≡ verdict.Refused x → Levels t stimulus ws₀ ws reply reply (Refused x)
+    pub stimulus-refused : (x : Refusal) → Err x ≡ first_of (stimulus_stages (cells_in n ws) stimulus) → Levels t stimulus ws₀ ws reply reply (Err x)
     unfolding level_stages
     stimulus-refused x e =
-        refused-decides (λ y. written_by y (length result)) (stimulus_stages cells stimulus) (room reply result ∷ []) result ws₀ ws reply v decided behind
-        x (Refused x) e refl
+        refused-decides (λ y. answer_by y (length result)) (stimulus_stages cells stimulus) (room reply result ∷ []) result ws₀ ws reply (Err x) (e ∙ same-verdict) behind
+        x (Err x) refl refl
 
-    pub stimulus-passed : v ≡ verdict.Pass → (ws' reply' : List ℕ) (r : Written)
+    pub stimulus-passed : Ok tt ≡ first_of (stimulus_stages (cells_in n ws) stimulus) → (ws' reply' : List ℕ) (r : Result ℕ Refusal)
         → Delivers (bit_bytes n ws stimulus) ws ws' reply reply' r → Levels t stimulus ws₀ ws' reply reply' r
     unfolding level_stages level_bytes
     stimulus-passed e ws' reply' r d =
         let same : bit_bytes n ws stimulus ≡ result =
         ap (map byte_of) (ap (λ (cs : List Cell). bit_outputs cs stimulus) same-cells ∙ bit-outputs cells (rank (records_of t)) ranked stimulus) in
-        passed-decides (λ y. written_by y (length result)) (stimulus_stages cells stimulus) (room reply result ∷ []) result ws₀ ws reply v decided behind
-        ws' reply' r (subst (λ (b : List ℕ). Delivers b ws ws' reply reply' r) same d) e
+        passed-decides (λ y. answer_by y (length result)) (stimulus_stages cells stimulus) (room reply result ∷ []) result ws₀ ws reply (Ok tt) (e ∙ same-verdict) behind
+        ws' reply' r (subst (λ (b : List ℕ). Delivers b ws ws' reply reply' r) same d) refl
 
 -- the stages of the call: 1 to 8 first
-in-turn : (words : ℕ) (t stimulus reply : List ℕ) → first_of (check_stages words t ++ level_stages t stimulus reply) ≡ level_verdict words t stimulus reply
+pub in_turn : (words : ℕ) (t stimulus reply : List ℕ) → first_of (check_stages words t ++ level_stages t stimulus reply) ≡ level_verdict words t stimulus reply
 unfolding level_verdict level_stages
-in-turn words t stimulus reply =
+in_turn words t stimulus reply =
     ap first_of (sym (append_assoc (check_stages words t) (stimulus_stages (decoded t).cells stimulus) (room reply (level_bytes t stimulus) ∷ [])))
-
--- by the law of the calls
-pub levels-called : (stimulus : List ℕ) {t ws ws₁ ws₂ ws₃ reply reply' : List ℕ} {v : Verdict} {r : Written} → Begins t ws ws₁ v
-    → Steps (λ y. written_by y (length (level_bytes t stimulus))) (level_stages t stimulus reply) (level_bytes t stimulus) ws₁ ws₂ reply reply' v r → ws₃ ≡ cleared ws₂
-    → (r ≡ level_answer (length ws) t stimulus reply) × ((reply' ≡ level_reply (length ws) t stimulus reply) × (ws₃ ≡ cleared ws))
-unfolding level_answer level_reply
-levels-called stimulus {t} {ws} {ws₁} {ws₂} {ws₃} {reply} b s e = rw (← in-turn (length ws) t stimulus reply) (called-written b s e)

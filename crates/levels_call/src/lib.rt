@@ -1,7 +1,8 @@
 // Levels of the outputs for a stimulus.
 #![tactic(auto)]
 
-ghost use Rattle.std.specs.Prelude.{◌≡◌, cond, ◌≤◌, length};
+ghost use Rattle.std.specs.Prelude.{◌≡◌, cond, ◌<◌, ◌≤◌, length, slice_index, MatchOption};
+ghost use Rattle.std.specs.List.{AllWithin};
 ghost use Rattle.kinds.specs.declared.Sort.TheVariants as sort;
 ghost use Rattle.kinds.specs.Kinds.{number_of};
 ghost use Rattle.netlist.specs.inner.Areas.{records_in};
@@ -10,29 +11,33 @@ ghost use Rattle.refusals.specs.Refusals.{first_of};
 ghost use Rattle.calls.specs.Calls.{put, stimulus_stages, level_answer, level_reply};
 ghost use Rattle.calls.specs.Work.{cleared};
 ghost use Rattle.delivery.specs.inner.Delivery.{Passed};
-ghost use Rattle.levels_call.specs.inner.Levels.{output_at, put_level, written_levels, DeliversLevels, Levels};
+ghost use Rattle.levels_call.specs.inner.Levels.{IsLevel, output_at, put_level, written_levels, DeliversLevels, Levels};
 
-use calls::Written;
-use refusals::{Refusal, Verdict};
+use kinds::Sort;
+use refusals::Refusal;
 use value::Slot;
 
+// The first byte that is no level.
+fn no_level(stimulus: &[u8]) -> Option<usize>
+    ensures { MatchOption result (AllWithin IsLevel stimulus.now 0 (length stimulus.now))
+        (λ i. (i < length stimulus.now) × (2 < slice_index stimulus.now i) × AllWithin IsLevel stimulus.now 0 i) }
+{
+    stimulus.iter().position(|level| 2 < *level)
+}
+
 // 10 and 11.
-fn stimulus_verdict(work: &[u32], n: u32, stimulus: &[u8]) -> Verdict
+fn stimulus_verdict(work: &[u32], n: u32, stimulus: &[u8]) -> Result<(), Refusal>
     requires { n ≤ 512 }
     ensures { result ≡ first_of (stimulus_stages (cells_in n work.now) stimulus.now) }
 {
-    let count = levels::count_kind(work, n, kinds::INPUT);
+    let count = levels::count_kind(work, n, Sort::Input as u8);
     if stimulus.len() != (count as usize) {
-        return Verdict::Refused(Refusal::LevelCount);
+        return Err(Refusal::LevelCount);
     }
-    let mut i: u32 = 0;
-    while i < count {
-        if 2 < basics::byte(stimulus, i as usize) {
-            return Verdict::Refused(Refusal::LevelValue(i));
-        }
-        i += 1;
+    match no_level(stimulus) {
+        Some(i) => Err(Refusal::LevelValue(i as u32)),
+        None => Ok(()),
     }
-    Verdict::Pass
 }
 
 // Writes the level of a slot that holds an output as byte k of the reply. The answer is the number of bytes written.
@@ -42,9 +47,9 @@ fn write_at(work: &[u32], n: u32, s: Slot, reply: &mut [u8], k: u32) -> u32
     ensures reply_after { reply.new ≡ put_level n work.now s.0 reply.old k }
 {
     let kind = netlist::record_in(work, s).kind;
-    if kind == kinds::OUTPUT {
+    if kind == Sort::Output as u8 {
         let t = levels::level_at(work, n, s);
-        basics::put_byte(reply, k as usize, t.to_byte() as u8);
+        basics::put(reply, k as usize, u32::from(t) as u8);
         return 1;
     }
     0
@@ -56,52 +61,58 @@ fn write_levels(work: &[u32], n: u32, reply: &mut [u8])
     requires work_in_bounds { length (of_kind (number_of sort.Output) (records_in n work.now)) ≤ length reply.old }
     ensures { reply.new ≡ put reply.old (written_levels n work.now) }
 {
-    let mut s: u32 = 0;
-    let mut k: u32 = 0;
-    while s < n {
+    let mut k = 0;
+    for s in 0..n {
         k += write_at(work, n, Slot(s), reply, k);
-        s += 1;
     }
 }
 
 // 12, or the levels of the outputs.
-fn written(work: &mut [u32], n: u32, stimulus: &[u8], reply: &mut [u8]) -> Written
+fn written(work: &mut [u32], n: u32, stimulus: &[u8], reply: &mut [u8]) -> Result<u32, Refusal>
     requires in_bounds { 16384 ≤ length work.old }
     requires n_bound { n ≤ 512 }
     ensures { DeliversLevels n stimulus.now work.old work.new reply.old reply.new result }
 {
-    let count = levels::count_kind(work, n, kinds::OUTPUT);
+    let count = levels::count_kind(work, n, Sort::Output as u8);
     if reply.len() < (count as usize) {
-        return Written::Refused(Refusal::ShortReply);
+        return Err(Refusal::ShortReply);
     }
     levels::evaluate(work, n, stimulus);
     write_levels(work, n, reply);
-    Written::Accepted(count)
+    Ok(count)
 }
 
 // 10 to 12, or the levels of the outputs, for a ticket that passed.
-fn evaluated(ticket: &[u8], stimulus: &[u8], work: &mut [u32], reply: &mut [u8]) -> Written
+fn evaluated(
+    ticket: &[u8],
+    stimulus: &[u8],
+    work: &mut [u32],
+    reply: &mut [u8],
+) -> Result<u32, Refusal>
     requires { Passed ticket.now work.old }
     ensures { Levels ticket.now stimulus.now work.old work.new reply.old reply.new result }
 {
     let n = (ticket.len() / 16) as u32;
     netlist::load(work, ticket, n);
-    match stimulus_verdict(work, n, stimulus) {
-        Verdict::Refused(x) => Written::Refused(x),
-        Verdict::Pass => written(work, n, stimulus, reply),
-    }
+    stimulus_verdict(work, n, stimulus)?;
+    written(work, n, stimulus, reply)
 }
 
 // The levels of a ticket's outputs for a stimulus, a byte for each input record in, one for each output record out.
-pub fn levels(ticket: &[u8], stimulus: &[u8], work: &mut [u32], reply: &mut [u8]) -> Written
+pub fn levels(
+    ticket: &[u8],
+    stimulus: &[u8],
+    work: &mut [u32],
+    reply: &mut [u8],
+) -> Result<u32, Refusal>
     ensures value { result ≡ level_answer (length work.old) ticket.now stimulus.now reply.old }
     ensures reply_after { reply.new ≡ level_reply (length work.old) ticket.now stimulus.now reply.old }
     ensures work_after { work.new ≡ cleared work.old }
 {
-    let w = match delivery::begin(ticket, work) {
-        Verdict::Refused(x) => Written::Refused(x),
-        Verdict::Pass => evaluated(ticket, stimulus, work, reply),
-    };
-    delivery::end(work);
-    w
+    delivery::with_work(
+        ticket,
+        work,
+        reply,
+        |work, reply| evaluated(ticket, stimulus, work, reply),
+    )
 }

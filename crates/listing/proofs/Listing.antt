@@ -1,9 +1,9 @@
 -- Line by line: what stands in the text before the record of a reader. Assumes nothing.
-use Rattle.std.proofs.Common.{◌≡◌, refl, sym, ap, ◌∙◌, subst, true, false, Bor, List, ℕ, ◌+◌, ◌*◌, ◌/◌, ◌<◌, ◌≤◌, length, arith, add-one}
+use Rattle.std.proofs.Common.{◌≡◌, refl, sym, ap, ◌∙◌, subst, true, false, Bor, List, ℕ, ◌+◌, ◌*◌, ◌/◌, ◌<◌, ◌≤◌, length, Some, arith, add-one}
 use Rattle.cell.specs.declared.Record.{Record}
 use Rattle.cell.specs.Records.{record_at}
 use Rattle.reader.specs.declared.Reader.{Reader}
-use Rattle.reader.specs.Read.{has_record, standing, following}
+use Rattle.reader.specs.Read.{has_record, standing, following, Reads}
 use Rattle.reader.proofs.Reading.{has-below, has-none}
 use Rattle.lines.specs.Lines.{record_line, lines_to, lines_of}
 use Rattle.text.specs.Text.{Puts}
@@ -44,6 +44,12 @@ module _ (bytes t : List ℕ) where
 
       pub listing-more : (r' : Reader) → r' ≡ following r → Listing bytes t r' v m
       listing-more r' e = subst (λ (q : Reader). Listing bytes t q v m) (sym e) record { same = s.same; upto = omega arith; puts = lines_more }
+
+    -- what the reader gives, and its line put behind the others
+    pub listing-read : (x : ℕ × Record) (r' : Reader) → Reads r (Some x) r' → (v : List ℕ) (m : ℕ) → Puts 80 u v n (record_line x.0 x.1) m → Listing bytes t r' v m
+    listing-read x r' steps v m p =
+        listing-more v (record_at r.bytes.now r.at) m (more-below (sym steps.0)) refl
+        (subst (λ (y : ℕ × Record). Puts 80 u v n (record_line y.0 y.1) m) steps.1 p) r' steps.2
 
     module _ (short : length bytes ≤ 16384) where
       pub listing-room : 81920 ≤ length t → r.at < length bytes / 16 → n + 80 ≤ length u

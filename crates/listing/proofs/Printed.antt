@@ -1,14 +1,11 @@
 -- What is printed for each answer of rewriting. Assumes nothing.
-use Rattle.std.proofs.Common.{◌≡◌, refl, sym, ap, ◌∙◌, subst, List, ◌++◌, ℕ, ◌+◌, ◌≤◌, Option, None, Some, IfSome, Result, Ok, Err, OnOk, is_ok, length, take, drop, arith, length-append, take_at, length-take-le}
+use Rattle.refusals.specs.Refusals.{Verdict}
+use Rattle.std.proofs.Common.{◌≡◌, sym, ap, ◌∙◌, subst, List, ◌++◌, ℕ, ◌+◌, ◌≤◌, Option, None, Some, IfSome, Result, Ok, Err, IfOk, OnOk, MatchResult, is_ok, length, take, drop, arith, length-append, take_at, length-take-le}
 use lib.Seq.{sets-eq}
 use Rattle.std.specs.Io.KnownBytes.{Appends}
 use Rattle.refusals.specs.declared.Refusal.{Refusal}
-use Rattle.refusals.specs.declared.Verdict.{Verdict}
-use Rattle.refusals.specs.declared.Verdict.TheVariants.{Pass, Refused}
 use Rattle.design.specs.Queue.{find_new_cell}
-use Rattle.calls.specs.declared.Written.{Written}
-use Rattle.calls.specs.declared.Written.TheVariants as written
-use Rattle.calls.specs.Answers.{written_by}
+use Rattle.calls.proofs.Answers.{answered, turned_away}
 use Rattle.calls.specs.Calls.{put, reply_after, rewrite_verdict, rewrite_answer, rewrite_bytes, rewrite_reply}
 use Rattle.lines.specs.Lines.{lines_of, refusal_line}
 use Rattle.text.specs.Text.{Puts}
@@ -24,16 +21,7 @@ shown most n t u xs p h =
     ap (take n) (p.stored ∙ sets-eq xs t 0 (omega (arith, p.within)))
     ∙ take_at xs (drop (0 + length xs) t) n (omega (arith, p.place))
 
--- ---- a verdict, by the answer that it gives
-passed : (v : Verdict) (bytes n : ℕ) → written.Accepted n ≡ written_by v bytes → (v ≡ Pass) × (n ≡ bytes)
-passed Pass bytes n e = (refl, cc)
-passed (Refused x) bytes n e = let z : ◌≡◌ {A = ℕ} 0 1 = cc in absurd (omega arith)
-
-refused : (v : Verdict) (bytes : ℕ) (x : Refusal) → written.Refused x ≡ written_by v bytes → v ≡ Refused x
-refused Pass bytes x e = let z : ◌≡◌ {A = ℕ} 0 1 = cc in absurd (omega arith)
-refused (Refused y) bytes x e = cc
-
-module _ (words : ℕ) (t reply : List ℕ) (w : Written) (is : w ≡ rewrite_answer find_new_cell words t reply) where
+module _ (words : ℕ) (t reply : List ℕ) (w : Result ℕ Refusal) (is : w ≡ rewrite_answer find_new_cell words t reply) where
   abbrev verdict : Verdict
   verdict = rewrite_verdict find_new_cell words t reply
 
@@ -41,10 +29,10 @@ module _ (words : ℕ) (t reply : List ℕ) (w : Written) (is : w ≡ rewrite_an
   bytes = rewrite_bytes find_new_cell t
 
   -- ---- an accepted ticket: the reply's first bytes are the result
-  module _ (n : ℕ) (accepted : w ≡ written.Accepted n) (after : List ℕ) (left : after ≡ rewrite_reply find_new_cell words t reply) where
-    passes : (verdict ≡ Pass) × (n ≡ length bytes)
+  module _ (n : ℕ) (accepted : w ≡ Ok n) (after : List ℕ) (left : after ≡ rewrite_reply find_new_cell words t reply) where
+    passes : (verdict ≡ Ok tt) × (n ≡ length bytes)
     unfolding rewrite_answer
-    passes = passed verdict (length bytes) n (sym accepted ∙ is)
+    passes = answered verdict (length bytes) n (sym is ∙ accepted)
 
     delivered : after ≡ bytes ++ drop (length bytes) reply
     unfolding rewrite_reply put
@@ -62,10 +50,10 @@ module _ (words : ℕ) (t reply : List ℕ) (w : Written) (is : w ≡ rewrite_an
         shown 81920 m text text' (lines_of (take n after)) p long ∙ ap lines_of result ∙ sym (ap (λ (v : Verdict). printed_by v bytes) passes.0)
 
   -- ---- a refusal
-  pub refused-printed : (x : Refusal) → w ≡ written.Refused x → (m : ℕ) (text text' : List ℕ) → 81920 ≤ length text → Puts 80 text text' 0 (refusal_line x) m → take m text' ≡ printed words t reply
+  pub refused-printed : (x : Refusal) → w ≡ Err x → (m : ℕ) (text text' : List ℕ) → 81920 ≤ length text → Puts 80 text text' 0 (refusal_line x) m → take m text' ≡ printed words t reply
   unfolding rewrite_answer printed
   refused-printed x e m text text' long p =
-      shown 80 m text text' (refusal_line x) p (omega arith) ∙ sym (ap (λ (v : Verdict). printed_by v bytes) (refused verdict (length bytes) x (sym e ∙ is)))
+      shown 80 m text text' (refusal_line x) p (omega arith) ∙ sym (ap (λ (v : Verdict). printed_by v bytes) (turned_away verdict (length bytes) x (sym is ∙ e)))
 
 -- ---- the text, behind what a writer held
 pub on_ok : {T E P : Type 0} (r : Result T E) → P → OnOk r P
@@ -82,3 +70,8 @@ pub lists-printed : (known held holds : Option (List ℕ)) (words most : ℕ) (t
     → IfSome known (λ xs. ticket ≡ take most xs) → out ≡ printed words ticket reply → Appends held holds out → IfSome known (λ xs. Appends held holds (printed words (take most xs) reply))
 lists-printed None held holds words most ticket reply out t e p = tt
 lists-printed (Some xs) held holds words most ticket reply out t e p = subst (Appends held holds) (e ∙ ap (λ (l : List ℕ). printed words l reply) t) p
+
+-- what holds of an answer holds of it behind a `map_err`
+pub mapped : {T E : Type 0} (F : Type 0) (P : T → Type 0) (r : Result T E) (x : T) → MatchResult r (λ y. ◌≡◌ {A = Result T F} (Ok x) (Ok y)) (λ e. ⊥) → IfOk r P → P x
+mapped F P (Ok y) x e p = subst P (let q : y ≡ x = cc in q) p
+mapped F P (Err y) x e p = absurd e

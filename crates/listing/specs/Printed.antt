@@ -1,7 +1,6 @@
 -- What the lister prints for a ticket (paper, "Tickets to try"). Assumes nothing: these are definitions.
-use Rattle.std.specs.Prelude.{◌≡◌, ◌≤◌, List, ℕ, length, take}
-use Rattle.refusals.specs.declared.Verdict.{Verdict}
-use Rattle.refusals.specs.declared.Verdict.TheVariants.{Pass, Refused}
+use Rattle.refusals.specs.Refusals.{Verdict}
+use Rattle.std.specs.Prelude.{◌≡◌, ◌≤◌, List, ℕ, length, take, Ok, Err}
 use Rattle.design.specs.Queue.{find_new_cell}
 use Rattle.calls.specs.Calls.{rewrite_verdict, rewrite_bytes}
 use Rattle.lines.specs.Lines.{lines_of, refusal_line}
@@ -12,8 +11,8 @@ IsPrefixLen n xs = (n ≤ length xs) × (n ≡ length (take n xs))
 
 -- what is printed by a verdict and the bytes of an accepted ticket's result
 abbrev pub printed_by : Verdict → List ℕ → List ℕ
-printed_by Pass bytes = lines_of bytes
-printed_by (Refused x) bytes = refusal_line x
+printed_by (Ok u) bytes = lines_of bytes
+printed_by (Err x) bytes = refusal_line x
 
 -- what the lister prints for a ticket: the lines of the rewritten ticket, or the refusal
 unfoldable pub printed : ℕ → List ℕ → List ℕ → List ℕ

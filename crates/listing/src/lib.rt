@@ -1,15 +1,14 @@
 // What the lister does: reads a ticket, rewrites it and prints a line for each record of the result.
 #![tactic(auto)]
 
-ghost use Rattle.std.specs.Prelude.{◌≡◌, ◌≤◌, length, take, replicate, OnOk, IfSome};
+ghost use Rattle.std.specs.Prelude.{◌≡◌, ◌≤◌, length, take, replicate, OnOk, IfOk, IfSome};
 ghost use Rattle.std.specs.Io.KnownBytes.{Appends};
 ghost use Rattle.lines.specs.Lines.{lines_of};
 ghost use Rattle.text.specs.Text.{Puts};
 ghost use Rattle.listing.specs.Printed.{IsPrefixLen, printed};
-ghost use Rattle.listing.specs.Taken.{Taken, TakenFrom, TakesMost};
+ghost use Rattle.listing.specs.Taken.{TakenFrom, TakesMost};
 ghost use Rattle.listing.specs.Failures.{OnUnread};
 
-use calls::Written;
 use reader::Reader;
 use std::io;
 use std::io::{Read, Write};
@@ -30,11 +29,9 @@ fn list(bytes: &[u8], text: &mut [u8]) -> usize
     requires { (length bytes.now ≤ 16384) × (81920 ≤ length text.old) }
     ensures { Puts 81920 text.old text.new 0 (lines_of bytes.now) result }
 {
-    let mut r = Reader::open(bytes);
-    let mut n: usize = 0;
-    while r.more() {
-        n = text::put_record(text, n, r.at, r.record());
-        r = r.next();
+    let mut n = 0;
+    for (s, r) in Reader::open(bytes) {
+        n = text::put_record(text, n, s as u32, r);
     }
     n
 }
@@ -47,16 +44,9 @@ fn tell(ticket: &[u8], work: &mut [u32], reply: &mut [u8], text: &mut [u8]) -> u
     ensures text_after { take result text.new ≡ printed (length work.old) ticket.now reply.old }
 {
     match rewrite_call::rewrite(ticket, work, reply) {
-        Written::Accepted(bytes) => list(&reply[..bytes as usize], text),
-        Written::Refused(x) => text::put_refusal(text, 0, x),
+        Ok(bytes) => list(&reply[..bytes as usize], text),
+        Err(x) => text::put_refusal(text, 0, x),
     }
-}
-
-// The input ended, or the buffer is full, after so many bytes; or a read failed.
-#[derive(Clone, Copy)]
-enum Input {
-    Ended(usize),
-    Failed(io::Error),
 }
 
 // Why a ticket was not listed.
@@ -68,20 +58,19 @@ pub enum Failure {
     Unwritten(io::Error),
 }
 
-// Reads into a buffer, and not past it.
-fn read<R: Read>(from: &mut R, buffer: &mut [u8]) -> Input
-    ensures inside { Taken result buffer.new }
-    ensures bytes { TakenFrom (R.remaining from.old) (R.remaining from.new) result buffer.new }
+// Reads into a buffer, and not past it, until the input ends or the buffer is full; answers how many bytes those are.
+fn read<R: Read>(from: &mut R, buffer: &mut [u8]) -> io::Result<usize>
+    ensures inside { IfOk result (λ n. n ≤ length buffer.new) }
+    ensures bytes { IfOk result (TakenFrom (R.remaining from.old) (R.remaining from.new) buffer.new) }
 {
     let mut done: usize = 0;
     while done < buffer.len() {
-        match from.read(&mut buffer[done..]) {
-            Ok(0) => return Input::Ended(done),
-            Ok(count) => done += count,
-            Err(e) => return Input::Failed(e),
+        match from.read(&mut buffer[done..])? {
+            0 => return Ok(done),
+            count => done += count,
         }
     }
-    Input::Ended(done)
+    Ok(done)
 }
 
 // Lists a ticket, with a buffer for its bytes, the words and the bytes that rewriting works in, and room for the lines.
@@ -100,10 +89,7 @@ fn print_with<R: Read, W: Write>(
         Appends (W.contents to.old) (W.contents to.new) (printed (length work.old) (take (length ticket.old) xs) reply.old))) }
     ensures unread { OnUnread result (to.new ≡ to.old) }
 {
-    let n = match read(from, ticket) {
-        Input::Ended(n) => n,
-        Input::Failed(e) => return Err(Failure::Unread(e)),
-    };
+    let n = read(from, ticket).map_err(Failure::Unread)?;
     let m = tell(&ticket[..n], work, reply, text);
     to.write_all(&text[..m]).map_err(Failure::Unwritten)
 }

@@ -43,16 +43,20 @@ fn list(rt: &(impl Files + Print + Eprint), name: &str, to: &mut impl Write) -> 
 
 fn main(rt: HostRuntime) -> io::Result<()> {
     let mut out = rt.stdout();
-    list(&rt, "0", &mut out)?;
-    list(&rt, "16", &mut out)?;
-    list(&rt, "8192", &mut out)?;
-    list(&rt, "8207", &mut out)?;
-    list(&rt, "8208", &mut out)?;
-    list(&rt, "8209", &mut out)?;
-    list(&rt, "undriven", &mut out)?;
-    list(&rt, "loop", &mut out)?;
-    list(&rt, "exhausted", &mut out)?;
-    // A directory.
-    list(&rt, ".", &mut out)?;
+    // The last is a directory.
+    for name in [
+        "0",
+        "16",
+        "8192",
+        "8207",
+        "8208",
+        "8209",
+        "undriven",
+        "loop",
+        "exhausted",
+        ".",
+    ] {
+        list(&rt, name, &mut out)?;
+    }
     list(&rt, "16", &mut Closed)
 }

@@ -2,8 +2,10 @@
 -- Assumes nothing.
 use mathlib.Core.Path.{◌≡◌, refl, sym, ap, ◌∙◌}
 use Prim.Native.Nat.{ℕ, zero, suc, ◌≤◌}
+use denote.Enum.Bare.{sameb}
 use native.Mathlib.Omega.{arith}
 use borrow.Author.Tests.{eqb-true, eq-eqb}
+use Rattle.logic.specs.contracts.Trit.{the_type}
 use Rattle.logic.specs.declared.Trit.{Trit}
 use Rattle.logic.specs.declared.Trit.TheVariants.{Zero, One, Undef}
 use Rattle.logic.specs.Levels.{byte_of, level_of, eq_level}
@@ -27,3 +29,16 @@ unfolding eq_level
 level-test =
     decides eq_level (λ x y e. sym (level-byte x) ∙ ap level_of (eqb-true (byte_of x) (byte_of y) e) ∙ level-byte y)
     (λ x. eq-eqb (byte_of x) (byte_of x) refl)
+
+-- what the derived `==` answers
+pub equal-is : (x y : Trit) → sameb the_type x y ≡ eq_level x y
+unfolding eq_level
+equal-is Zero Zero = refl
+equal-is Zero One = refl
+equal-is Zero Undef = refl
+equal-is One Zero = refl
+equal-is One One = refl
+equal-is One Undef = refl
+equal-is Undef Zero = refl
+equal-is Undef One = refl
+equal-is Undef Undef = refl

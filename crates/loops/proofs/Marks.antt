@@ -9,12 +9,12 @@ use lib.Dec.{eqb}
 use lib.ListN.{length, get_or, set, length-set}
 use lib.Seq.{get_or-set_same, get_or-set_other}
 use borrow.Author.Tests.{eqb-true, eqb-false, eq-eqb, ne_eqb}
+use Rattle.std.specs.Prelude.{Some}
 use Rattle.value.specs.declared.Slot.{Slot}
 use Rattle.cell.specs.declared.Record.{Record}
-use Rattle.cell.specs.declared.Edge.TheVariants.{To}
 use Rattle.cell.specs.Operands.{edge_at}
 use Rattle.cell.specs.Records.{record_in}
-use Rattle.loops.specs.declared.Stop.{Stop}
+use Rattle.std.proofs.Common.{Option}
 use Rattle.loops.specs.inner.Search.{Searchable}
 use Rattle.loops.specs.inner.Walk.{mark, unvisited, Before, Walking, Ready, Leaves}
 use Rattle.loops.proofs.Counting.{counted-grows, counted-less}
@@ -38,7 +38,7 @@ mark-other ws s v u d = get_or-set_other ws s u v 0 d
 abbrev Kept : List ℕ → List ℕ → Type 0
 Kept ws ws' = (u : ℕ) → (mark ws u ≡ 0 → ⊥) → mark ws' u ≡ mark ws u
 
-pub before-kept : (stop : Stop) (ws ws' : List ℕ) (m m' x : ℕ) → Kept ws ws' → m ≤ m' → Before stop ws m x → Before stop ws' m' x
+pub before-kept : (stop : Option Slot) (ws ws' : List ℕ) (m m' x : ℕ) → Kept ws ws' → m ≤ m' → Before stop ws m x → Before stop ws' m' x
 before-kept stop ws ws' m m' x k l b = let e : mark ws' x ≡ mark ws x = k x b.met in record {
   met = λ z. b.met (sym e ∙ z);
   finished = λ t. let h : 2 ≤ mark ws x = b.finished t in omega arith;
@@ -72,7 +72,7 @@ module _ (n : ℕ) (ws : List ℕ) (s v : ℕ) (l : s < length ws) (i : s < n) (
       unvisited-grows n (set ws s v) ws (λ u k. mark_set (λ m. m ≡ 0 → mark ws u ≡ 0) ws s v u l (λ e q. absurd (omega arith)) (λ d q. q))
 
 -- slot s is opened
-module _ (rs : List Record) (stop : Stop) (clock : ℕ) (ws : List ℕ) (s : ℕ) (g : Ready rs stop clock ws s 0) where
+module _ (rs : List Record) (stop : Option Slot) (clock : ℕ) (ws : List ℕ) (s : ℕ) (g : Ready rs stop clock ws s 0) where
   within-words : s < length ws
   within-words = omega (arith, g.below, g.fits.few, g.fits.long)
 
@@ -112,9 +112,9 @@ module _ (rs : List Record) (stop : Stop) (clock : ℕ) (ws : List ℕ) (s : ℕ
       (unvisited-less (length rs) ws s 1 within-words g.below (omega arith) g.marked)
 
 -- slot s is finished, after its edges were followed
-module _ (rs : List Record) (stop : Stop) (clock c : ℕ) (ws ws₁ ws₂ : List ℕ) (s : ℕ) (g : Ready rs stop clock ws s 0) (o : ws₁ ≡ set ws s 1)
+module _ (rs : List Record) (stop : Option Slot) (clock c : ℕ) (ws ws₁ ws₂ : List ℕ) (s : ℕ) (g : Ready rs stop clock ws s 0) (o : ws₁ ≡ set ws s 1)
     (n : length ws₂ ≡ length ws₁) (a : Leaves rs stop clock c ws₁ ws₂)
-    (b : (f : ℕ) (x : Slot) → edge_at (record_in rs s) f ≡ To x → Before stop ws₂ c x.0) where
+    (b : (f : ℕ) (x : Slot) → edge_at (record_in rs s) f ≡ Some x → Before stop ws₂ c x.0) where
   is_open : Ready rs stop clock ws₁ s 1
   is_open = opens rs stop clock ws s g ws₁ o
 

@@ -5,9 +5,9 @@ use mathlib.Core.List.{List}
 use Prim.Native.Nat.{ℕ, ◌-◌, ◌<◌, ◌≤◌}
 use native.Mathlib.Omega.{arith}
 use lib.ListN.{length}
+use Rattle.std.specs.Prelude.{Some}
 use Rattle.value.specs.declared.Slot.{Slot}
 use Rattle.cell.specs.declared.Record.{Record}
-use Rattle.cell.specs.declared.Edge.TheVariants.{To}
 use Rattle.cell.specs.Operands.{edge_at}
 use Rattle.cell.specs.Records.{record_in}
 use Rattle.loops.specs.Reach.{Reaches, edge, path, OnLoop, reaches, on_loop}
@@ -24,11 +24,11 @@ pub rank-le : (rs : List Record) (s : ℕ) → rank rs s ≤ length rs
 unfolding rank
 rank-le rs s = omega arith
 
-pub reaches-by : (rs : List Record) (i s f : ℕ) (x : Slot) → edge_at (record_in rs s) f ≡ To x → Reaches rs i s → Reaches rs i x.0
+pub reaches-by : (rs : List Record) (i s f : ℕ) (x : Slot) → edge_at (record_in rs s) f ≡ Some x → Reaches rs i s → Reaches rs i x.0
 reaches-by rs i s f x e (edge g q) = path g q (edge f e)
 reaches-by rs i s f x e (path {x = y} g q r) = path g q (reaches-by rs y s f x e r)
 
-pub rank_falls : (rs : List Record) → ((s : ℕ) → OnLoop rs s → ⊥) → (s f : ℕ) (x : Slot) → edge_at (record_in rs s) f ≡ To x → rank rs x.0 < rank rs s
+pub rank_falls : (rs : List Record) → ((s : ℕ) → OnLoop rs s → ⊥) → (s f : ℕ) (x : Slot) → edge_at (record_in rs s) f ≡ Some x → rank rs x.0 < rank rs s
 unfolding rank on_loop
 rank_falls rs h s f x e =
     let l : counted (λ i. reaches rs i s) (length rs) < counted (λ i. reaches rs i x.0) (length rs) =
@@ -37,7 +37,7 @@ rank_falls rs h s f x e =
     s (edge-below rs s f x e) (on_loop-false rs s (h s)) ((reaches-iff rs s x.0).1 (edge f e)) in
     omega (arith, counted-le (λ i. reaches rs i x.0) (length rs))
 
-module _ (rs : List Record) (g : ℕ → ℕ) (h : (s f : ℕ) (x : Slot) → edge_at (record_in rs s) f ≡ To x → g x.0 < g s) where
+module _ (rs : List Record) (g : ℕ → ℕ) (h : (s f : ℕ) (x : Slot) → edge_at (record_in rs s) f ≡ Some x → g x.0 < g s) where
   reached-falls : (s y : ℕ) → Reaches rs s y → g y < g s
   reached-falls s y (edge f e) = h s f _ e
   reached-falls s y (path {x = x} f e r) = omega (arith, h s f _ e, reached-falls x y r)

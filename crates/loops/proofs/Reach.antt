@@ -9,11 +9,10 @@ use native.Mathlib.Omega.{arith}
 use lib.Dec.{eqb, ltb}
 use lib.ListN.{length, get_or, get_or-map}
 use borrow.Author.Tests.{eqb-true, eq-eqb, ltb-true, ltb-false}
+use Rattle.std.specs.Prelude.{Option, Some, None}
 use Rattle.value.specs.declared.Slot.{Slot}
 use Rattle.value.specs.Value.{slot_at}
 use Rattle.cell.specs.declared.Record.{Record}
-use Rattle.cell.specs.declared.Edge.{Edge}
-use Rattle.cell.specs.declared.Edge.TheVariants.{To, Nowhere}
 use Rattle.kinds.specs.Kinds.{kind_of, use_of, sort_of}
 use Rattle.cell.specs.Operands.{is_operand, is_comb_edge, edge_at}
 use Rattle.cell.specs.Records.{record_of, record_in}
@@ -35,22 +34,22 @@ or_right false b e = e
 
 -- an edge by some field to a slot with the property p
 abbrev LeadsTo : (ℕ → Bool) → Record → Type 0
-LeadsTo p r = (f : ℕ) × (x : Slot) × (edge_at r f ≡ To x) × (p x.0 ≡ true)
+LeadsTo p r = (f : ℕ) × (x : Slot) × (edge_at r f ≡ Some x) × (p x.0 ≡ true)
 
 module _ (p : ℕ → Bool) (r : Record) where
-  hits-in : (f : ℕ) (e : Edge) → edge_at r f ≡ e → hits p e ≡ true → LeadsTo p r
-  hits-in f (To x) q h = (f, x, q, h)
-  hits-in f Nowhere q h = let z : ◌≡◌ {A = ℕ} 0 1 = cc in absurd (omega arith)
+  hits-in : (f : ℕ) (e : Option Slot) → edge_at r f ≡ e → hits p e ≡ true → LeadsTo p r
+  hits-in f (Some x) q h = (f, x, q, h)
+  hits-in f None q h = let z : ◌≡◌ {A = ℕ} 0 1 = cc in absurd (omega arith)
 
   leads-in : leads p r ≡ true → LeadsTo p r
   leads-in h =
       ⊎_elim (λ k. ⊎_elim (hits-in 1 _ refl) (hits-in 2 _ refl) (or_cases (hits p (edge_at r 1)) _ k)) (hits-in 3 _ refl)
       (or_cases (hits p (edge_at r 1) || hits p (edge_at r 2)) _ h)
 
-  hits-out : (f g : ℕ) (x : Slot) → edge_at r f ≡ To x → p x.0 ≡ true → f ≡ g → hits p (edge_at r g) ≡ true
+  hits-out : (f g : ℕ) (x : Slot) → edge_at r f ≡ Some x → p x.0 ≡ true → f ≡ g → hits p (edge_at r g) ≡ true
   hits-out f g x q h e = ap (λ (i : ℕ). hits p (edge_at r i)) (sym e) ∙ ap (hits p) q ∙ h
 
-  leads-out : (f : ℕ) (x : Slot) → edge_at r f ≡ To x → p x.0 ≡ true → leads p r ≡ true
+  leads-out : (f : ℕ) (x : Slot) → edge_at r f ≡ Some x → p x.0 ≡ true → leads p r ≡ true
   leads-out f x q h =
       ⊎_elim (λ e. or_left _ _ (or_left _ _ (hits-out f 1 x q h e)))
       (⊎_elim (λ e. or_left _ _ (or_right (hits p (edge_at r 1)) _ (hits-out f 2 x q h e))) (λ e. or_right (hits p (edge_at r 1) || hits p (edge_at r 2)) _ (hits-out f 3 x q h e)))
@@ -88,7 +87,7 @@ module _ (rs : List Record) (y : ℕ) where
     where
       go : LeadsTo (target k) (record_in rs s) → ((x : ℕ) → marked k x ≡ true → Reaches rs x y) → Reaches rs s y
       go (f, x, q, t) r =
-          ⊎_elim (λ e. edge f (q ∙ ap (λ (i : ℕ). To (slot_at i)) (eqb-true _ _ e))) (λ e. path f q (r x.0 e)) (or_cases (eqb x.0 y) _ t)
+          ⊎_elim (λ e. edge f (q ∙ ap (λ (i : ℕ). Some (slot_at i)) (eqb-true _ _ e))) (λ e. path f q (r x.0 e)) (or_cases (eqb x.0 y) _ t)
 
   -- marks stay
   marked_more : (j k s : ℕ) → ((x : ℕ) → marked j x ≡ true → marked k x ≡ true) → marked (suc j) s ≡ true → marked (suc k) s ≡ true

@@ -1,25 +1,23 @@
 -- What the search shows around the walk: cleared marks are where a walk begins, and what its end says of loops. Assumes nothing.
 use mathlib.Core.Path.{◌≡◌, refl, sym, ap, ◌∙◌, subst}
 use mathlib.Core.Bool.{Bool, true, false}
-use mathlib.Core.List.{List}
+use mathlib.Core.List.{List, ◌++◌}
 use mathlib.Core.Logic.{inl}
 use Prim.Native.Nat.{ℕ, ◌+◌, ◌<◌, ◌≤◌}
 use native.Mathlib.Omega.{arith}
 use lib.Dec.{eqb}
-use lib.ListN.{length, set, drop, length-set}
-use lib.Seq.{drop-set-lt}
+use lib.ListN.{length, drop, take}
+use Rattle.std.proofs.lemmas.List.{length-take-le, get_or_append_left}
+use Rattle.std.proofs.lemmas.Slice.{drop-append-drop}
 use borrow.Author.Count.{below_more}
 use borrow.Author.Tests.{eq-eqb, eqb-true, eqb-false}
+use Rattle.std.specs.Prelude.{Some}
 use Rattle.value.specs.declared.Slot.{Slot}
 use Rattle.value.specs.Value.{slot_at}
 use Rattle.cell.specs.declared.Record.{Record}
-use Rattle.cell.specs.declared.Edge.TheVariants.{To}
 use Rattle.cell.specs.Operands.{edge_at}
 use Rattle.cell.specs.Records.{record_in}
-use Rattle.loops.specs.declared.Stop.{Stop}
-use Rattle.loops.specs.declared.Stop.TheVariants.{Any, At}
-use Rattle.loops.specs.declared.Found.{Found}
-use Rattle.loops.specs.declared.Found.TheVariants as found
+use Rattle.std.proofs.Common.{Option, Some, None}
 use Rattle.loops.specs.Reach.{Reaches, edge, path, on_loop}
 use Rattle.loops.specs.inner.Search.{Searchable, Finds}
 use Rattle.loops.specs.inner.Walk.{mark, unvisited, stops_at, Stopped, Reached, Within, Before, Walking, Ready, Coming, Leaves, Visits, Meets, Cleared, Frees, Tells}
@@ -27,37 +25,17 @@ use Rattle.loops.proofs.Counting.{counted-le}
 use Rattle.loops.proofs.Edges.{edge-below}
 use Rattle.loops.proofs.Reach.{on_loop-iff, on_loop-false}
 use Rattle.loops.proofs.Rank.{falls-no-loop}
-use Rattle.loops.proofs.Marks.{mark_set}
 use Rattle.loops.proofs.Lowest.{IsLowest, lowest-on-loop}
 
--- the marks of the first i slots are off
-pub record Clearing (n : ℕ) (ws ws' : List ℕ) (i : ℕ) : Type 0 where
-  pub upto : i ≤ n
-  pub same : length ws' ≡ length ws
-  pub cleared : Cleared i ws ws'
-
-pub clearing-none : (n : ℕ) (ws : List ℕ) → Clearing n ws ws 0
-clearing-none n ws = record {
-  upto = omega arith;
-  same = refl;
-  cleared = record { blank = λ u l. absurd (omega arith); rest = refl };
-}
-
-pub clearing-inside : (n : ℕ) (ws ws' : List ℕ) (i : ℕ) → Clearing n ws ws' i → (n ≤ 512) × (16384 ≤ length ws) → i < n → i < length ws'
-clearing-inside n ws ws' i g h l = omega (arith, g.same)
-
-pub clearing-more : (n : ℕ) (ws ws' ws'' : List ℕ) (i : ℕ) → Clearing n ws ws' i → (n ≤ 512) × (16384 ≤ length ws) → i < n → ws'' ≡ set ws' i 0 → Clearing n ws ws'' (i + 1)
-clearing-more n ws ws' ws'' i g h l e = subst (λ (vs : List ℕ). Clearing n ws vs (i + 1)) (sym e) (record {
-  upto = omega arith;
-  same = length-set ws' i 0 ∙ g.same;
-  cleared = record {
-    blank = λ u k. mark_set (λ m. m ≡ 0) ws' i 0 u (omega (arith, g.same)) (λ q. refl) (λ d. g.cleared.blank u (omega arith));
-    rest = drop-set-lt 16384 ws' i 0 (omega arith) ∙ g.cleared.rest;
-  };
-})
-
-pub clearing-all : (n : ℕ) (ws ws' : List ℕ) (i : ℕ) → Clearing n ws ws' i → n ≤ i → Cleared n ws ws'
-clearing-all n ws ws' i g l = record { blank = λ u k. g.cleared.blank u (omega (arith, g.upto)); rest = g.cleared.rest }
+-- the marks of the first n slots are off
+pub cleared : (n : ℕ) (ws vs : List ℕ) (i : ℕ) → (n ≤ 512) × (16384 ≤ length ws) → length vs ≡ length (take n ws) → length (take n ws) ≤ i
+    → ((k : ℕ) → k < i → mark vs k ≡ 0) → Cleared n ws (vs ++ drop n ws)
+cleared n ws vs i h e d z =
+    let l : length vs ≡ n = e ∙ length-take-le n ws (omega arith) in
+    record {
+      blank = λ u k. get_or_append_left vs (drop n ws) 0 u (omega arith) ∙ z u (omega arith);
+      rest = drop-append-drop n ws vs 16384 (omega arith) l;
+    }
 
 searchable-own : (rs : List Record) (n : ℕ) (ws : List ℕ) → Searchable rs n ws → Searchable rs (length rs) ws
 searchable-own rs n ws g = subst (λ (k : ℕ). Searchable rs k ws) (sym g.count) g
@@ -75,7 +53,7 @@ module _ (rs : List Record) (n : ℕ) (ws ws' : List ℕ) (g : Searchable rs n w
   off : (u : ℕ) → u < length rs → mark ws' u ≡ 0
   off u l = k.blank u (omega (arith, g.count))
 
-  begins : (stop : Stop) → Walking rs stop 2 ws'
+  begins : (stop : Option Slot) → Walking rs stop 2 ws'
   unfolding unvisited
   begins stop = record {
     begun = omega arith;
@@ -87,30 +65,30 @@ module _ (rs : List Record) (n : ℕ) (ws ws' : List ℕ) (g : Searchable rs n w
   fits-own : Searchable rs (length rs) ws'
   fits-own = searchable-own rs n ws' (searchable-kept rs n ws ws' g e)
 
-  pub visit-begins : (s : Slot) → s.0 < n → Ready rs (At s) 2 ws' s.0 0
+  pub visit-begins : (s : Slot) → s.0 < n → Ready rs (Some s) 2 ws' s.0 0
   unfolding Within
   visit-begins s l = record {
     fits = fits-own;
-    walking = begins (At s);
+    walking = begins (Some s);
     below = omega (arith, g.count);
     within = inl refl;
     marked = k.blank s.0 l;
   }
 
-  module _ (s : Slot) (l : s.0 < n) (ws'' : List ℕ) (c : ℕ) (v : Visits rs (At s) 2 ws' ws'' s.0 c) where
+  module _ (s : Slot) (l : s.0 < n) (ws'' : List ℕ) (c : ℕ) (v : Visits rs (Some s) 2 ws' ws'' s.0 c) where
     on-loop : c ≡ 0 → on_loop rs s.0 ≡ true
     unfolding Stopped
     on-loop q = (on_loop-iff rs s.0).1 (v.walked.looped q)
 
     module _ (d : c ≡ 0 → ⊥) where
-      leaves : Leaves rs (At s) 2 c ws' ws''
+      leaves : Leaves rs (Some s) 2 c ws' ws''
       leaves = v.walked.done d
 
       -- from a finished slot an edge leads to a finished slot that is not s, since s has the last stamp
-      onward : (u f : ℕ) (x : Slot) → 2 ≤ mark ws'' u → edge_at (record_in rs u) f ≡ To x → (2 ≤ mark ws'' x.0) × (x.0 ≡ s.0 → ⊥)
+      onward : (u f : ℕ) (x : Slot) → 2 ≤ mark ws'' u → edge_at (record_in rs u) f ≡ Some x → (2 ≤ mark ws'' x.0) × (x.0 ≡ s.0 → ⊥)
       unfolding stops_at
       onward u f x m e =
-          let b : Before (At s) ws'' (mark ws'' u) x.0 = leaves.walking.before u f x m e in
+          let b : Before (Some s) ws'' (mark ws'' u) x.0 = leaves.walking.before u f x m e in
           let o : mark ws'' x.0 ≡ 1 → ⊥ = λ h. absurd (omega (arith, leaves.opened x.0 h, off x.0 (fits-own.inside u f x e))) in
           (omega (arith, o, b.met), λ h. absurd (omega (arith, b.earlier (eq-eqb _ _ (sym h)), ap (mark ws'') h, v.stamped d, leaves.walking.stamps u (edge-below rs u f x e))))
 
@@ -133,7 +111,7 @@ pub record Going (rs : List Record) (n : ℕ) (ws ws' : List ℕ) (clock i : ℕ
   pub upto : i ≤ n
   pub same : length ws' ≡ length ws
   pub fits : Searchable rs n ws'
-  pub walking : Walking rs Any clock ws'
+  pub walking : Walking rs None clock ws'
   pub finished : (u : ℕ) → u < i → 2 ≤ mark ws' u
   pub rest : drop 16384 ws' ≡ drop 16384 ws
 
@@ -142,14 +120,14 @@ going-begins rs n ws ws' g k e = record {
   upto = omega arith;
   same = refl;
   fits = searchable-kept rs n ws ws' g e;
-  walking = begins rs n ws ws' g k e Any;
+  walking = begins rs n ws ws' g k e None;
   finished = λ u l. absurd (omega arith);
   rest = refl;
 }
 
 module _ (rs : List Record) (n : ℕ) (ws₀ ws : List ℕ) (clock i : ℕ) (g : Going rs n ws₀ ws clock i) where
   module _ (l : i < n) where
-    pub going-coming : Coming rs Any clock ws i
+    pub going-coming : Coming rs None clock ws i
     unfolding Reached
     going-coming = record {
       fits = searchable-own rs n ws g.fits;
@@ -158,10 +136,10 @@ module _ (rs : List Record) (n : ℕ) (ws₀ ws : List ℕ) (clock i : ℕ) (g :
       reached = tt;
     }
 
-    module _ (ws' : List ℕ) (c : ℕ) (v : Meets rs Any clock ws ws' i c) where
+    module _ (ws' : List ℕ) (c : ℕ) (v : Meets rs None clock ws ws' i c) where
       pub going_more : (c ≡ 0 → ⊥) → length ws' ≡ length ws → Going rs n ws₀ ws' c (i + 1)
       unfolding stops_at
-      going_more d e = let a : Leaves rs Any clock c ws ws' = v.walked.done d in record {
+      going_more d e = let a : Leaves rs None clock c ws ws' = v.walked.done d in record {
         upto = omega arith;
         same = e ∙ g.same;
         fits = searchable-kept rs n ws ws' g.fits e;
@@ -213,23 +191,23 @@ module _ (rs : List Record) (n : ℕ) (ws₀ ws : List ℕ) (i : ℕ) (g : Seeki
       rest = v.rest ∙ g.rest;
     }
 
-    pub seeking-found : b ≡ true → Finds rs ws₀ ws' (found.At (slot_at i))
+    pub seeking-found : b ≡ true → Finds rs ws₀ ws' (Some (slot_at i))
     unfolding IsLowest
     seeking-found t = record {
-      found = (lowest-on-loop rs (found.At (slot_at i))).1 (omega (arith, g.fits.count), sym v.told ∙ t, g.none);
+      found = (lowest-on-loop rs (Some (slot_at i))).1 (omega (arith, g.fits.count), sym v.told ∙ t, g.none);
       rest = v.rest ∙ g.rest;
     }
 
-finds-nothing : (rs : List Record) (ws ws' : List ℕ) → ((i : ℕ) → i < length rs → on_loop rs i ≡ false) → drop 16384 ws' ≡ drop 16384 ws → Finds rs ws ws' found.Nothing
+finds-nothing : (rs : List Record) (ws ws' : List ℕ) → ((i : ℕ) → i < length rs → on_loop rs i ≡ false) → drop 16384 ws' ≡ drop 16384 ws → Finds rs ws ws' None
 unfolding IsLowest
-finds-nothing rs ws ws' h e = record { found = (lowest-on-loop rs found.Nothing).1 h; rest = e }
+finds-nothing rs ws ws' h e = record { found = (lowest-on-loop rs None).1 h; rest = e }
 
-pub seeking-ends : (rs : List Record) (n : ℕ) (ws₀ ws : List ℕ) (i : ℕ) → Seeking rs n ws₀ ws i → n ≤ i → Finds rs ws₀ ws found.Nothing
+pub seeking-ends : (rs : List Record) (n : ℕ) (ws₀ ws : List ℕ) (i : ℕ) → Seeking rs n ws₀ ws i → n ≤ i → Finds rs ws₀ ws None
 seeking-ends rs n ws₀ ws i g l = finds-nothing rs ws₀ ws (λ j h. g.none j (omega (arith, g.fits.count))) g.rest
 
 module _ (rs : List Record) (ws ws' : List ℕ) (b : Bool) (v : Frees rs ws ws' b) where
-  pub free-finds : b ≡ true → Finds rs ws ws' found.Nothing
+  pub free-finds : b ≡ true → Finds rs ws ws' None
   free-finds t = finds-nothing rs ws ws' (λ j h. v.free t j) v.rest
 
-  pub then-finds : (ws'' : List ℕ) (r : Found) → Finds rs ws' ws'' r → Finds rs ws ws'' r
+  pub then-finds : (ws'' : List ℕ) (r : Option Slot) → Finds rs ws' ws'' r → Finds rs ws ws'' r
   then-finds ws'' r f = record { found = f.found; rest = f.rest ∙ v.rest }

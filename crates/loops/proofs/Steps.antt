@@ -13,15 +13,13 @@ use mir.Syntax.{w32}
 use mir.Val.{Fits}
 use borrow.Author.Rules.{Fits-under}
 use borrow.Author.Tests.{eqb-true, eqb-false}
+use Rattle.std.specs.Prelude.{Option, Some, None}
 use Rattle.value.specs.declared.Slot.{Slot}
 use Rattle.cell.specs.declared.Record.{Record}
-use Rattle.cell.specs.declared.Edge.{Edge}
-use Rattle.cell.specs.declared.Edge.TheVariants.{To, Nowhere}
 use Rattle.cell.specs.Operands.{edge_at}
 use Rattle.cell.specs.Records.{record_at, records_of, record_in}
 use Rattle.cell.proofs.Lists.{records-length, records-at}
-use Rattle.loops.specs.declared.Stop.{Stop}
-use Rattle.loops.specs.declared.Stop.TheVariants.{Any, At}
+use Rattle.std.proofs.Common.{Option, Some, None}
 use Rattle.loops.specs.Reach.{Reaches, edge}
 use Rattle.loops.specs.inner.Walk.{mark, unvisited, stops_at, Stopped, Reached, Within, Before, Walking, Ready, Coming, Leaves, Walked, Visits, Meets, Follows}
 use Rattle.loops.proofs.Edges.{edge-range}
@@ -29,7 +27,7 @@ use Rattle.loops.proofs.Rank.{reaches-by}
 use Rattle.loops.proofs.Marks.{before-kept, unvisited-kept, opens-fewer, finishes, finished-last}
 
 -- nothing was changed
-module _ (rs : List Record) (stop : Stop) (clock : ℕ) (ws : List ℕ) (w : Walking rs stop clock ws) where
+module _ (rs : List Record) (stop : Option Slot) (clock : ℕ) (ws : List ℕ) (w : Walking rs stop clock ws) where
   stays : Walked rs stop clock ws ws clock
   stays = record {
     looped = λ e. absurd (omega (arith, w.begun));
@@ -51,26 +49,26 @@ module _ (rs : List Record) (stop : Stop) (clock : ℕ) (ws : List ℕ) (w : Wal
   }
 
 -- the walk was stopped
-stuck : (rs : List Record) (stop : Stop) (clock : ℕ) (ws ws' : List ℕ) → Stopped rs stop → drop 16384 ws' ≡ drop 16384 ws → Walked rs stop clock ws ws' 0
+stuck : (rs : List Record) (stop : Option Slot) (clock : ℕ) (ws ws' : List ℕ) → Stopped rs stop → drop 16384 ws' ≡ drop 16384 ws → Walked rs stop clock ws ws' 0
 stuck rs stop clock ws ws' h e = record { looped = λ q. h; done = λ d. absurd (d refl); rest = e }
 
-reached-within : (rs : List Record) (stop : Stop) (x : ℕ) → Reached rs stop x → Within rs stop x
+reached-within : (rs : List Record) (stop : Option Slot) (x : ℕ) → Reached rs stop x → Within rs stop x
 unfolding Reached Within
-reached-within rs Any x h = tt
-reached-within rs (At t) x h = inr h
+reached-within rs None x h = tt
+reached-within rs (Some t) x h = inr h
 
-within-reached : (rs : List Record) (stop : Stop) (s f : ℕ) (x : Slot) → edge_at (record_in rs s) f ≡ To x → Within rs stop s → Reached rs stop x.0
+within-reached : (rs : List Record) (stop : Option Slot) (s f : ℕ) (x : Slot) → edge_at (record_in rs s) f ≡ Some x → Within rs stop s → Reached rs stop x.0
 unfolding Reached Within
-within-reached rs Any s f x e h = tt
-within-reached rs (At t) s f x e h =
+within-reached rs None s f x e h = tt
+within-reached rs (Some t) s f x e h =
     ⊎_elim (λ q. edge f (ap (λ (i : ℕ). edge_at (record_in rs i) f) (sym q) ∙ e)) (reaches-by rs t.0 s f x e) h
 
-reached-stopped : (rs : List Record) (stop : Stop) (x : ℕ) → stops_at stop x ≡ true → Reached rs stop x → Stopped rs stop
+reached-stopped : (rs : List Record) (stop : Option Slot) (x : ℕ) → stops_at stop x ≡ true → Reached rs stop x → Stopped rs stop
 unfolding stops_at Reached Stopped
-reached-stopped rs Any x b h = tt
-reached-stopped rs (At t) x b h = subst (λ (y : ℕ). Reaches rs t.0 y) (sym (eqb-true t.0 x b)) h
+reached-stopped rs None x b h = tt
+reached-stopped rs (Some t) x b h = subst (λ (y : ℕ). Reaches rs t.0 y) (sym (eqb-true t.0 x b)) h
 
-module _ (rs : List Record) (stop : Stop) (clock : ℕ) (ws : List ℕ) (x : ℕ) (g : Coming rs stop clock ws x) where
+module _ (rs : List Record) (stop : Option Slot) (clock : ℕ) (ws : List ℕ) (x : ℕ) (g : Coming rs stop clock ws x) where
   pub meet-new : (m : ℕ) → m ≡ mark ws x → m ≡ 0 → Ready rs stop clock ws x 0
   meet-new m e z = record {
     fits = g.fits;
@@ -99,7 +97,7 @@ module _ (rs : List Record) (stop : Stop) (clock : ℕ) (ws : List ℕ) (x : ℕ
     pub meet-finished : (m ≡ 1 → ⊥) → Meets rs stop clock ws ws x clock
     meet-finished n = met-before (λ k. n)
 
-pub meet-visited : (rs : List Record) (stop : Stop) (clock : ℕ) (ws ws' : List ℕ) (x next : ℕ) → Visits rs stop clock ws ws' x next → Meets rs stop clock ws ws' x next
+pub meet-visited : (rs : List Record) (stop : Option Slot) (clock : ℕ) (ws ws' : List ℕ) (x next : ℕ) → Visits rs stop clock ws ws' x next → Meets rs stop clock ws ws' x next
 meet-visited rs stop clock ws ws' x next v = record {
   walked = v.walked;
   before = λ d. let s : (2 ≤ mark ws' x) × (mark ws' x + 1 ≡ next) = v.stamped d in record {
@@ -109,7 +107,7 @@ meet-visited rs stop clock ws ws' x next v = record {
   };
 }
 
-leaves-on : (rs : List Record) (stop : Stop) (clock c next : ℕ) (ws ws' ws'' : List ℕ) → Leaves rs stop clock c ws ws' → Leaves rs stop c next ws' ws'' → Leaves rs stop clock next ws ws''
+leaves-on : (rs : List Record) (stop : Option Slot) (clock c next : ℕ) (ws ws' ws'' : List ℕ) → Leaves rs stop clock c ws ws' → Leaves rs stop c next ws' ws'' → Leaves rs stop clock next ws ws''
 leaves-on rs stop clock c next ws ws' ws'' a b = record {
   walking = b.walking;
   later = omega (arith, a.later, b.later);
@@ -119,10 +117,10 @@ leaves-on rs stop clock c next ws ws' ws'' a b = record {
 }
 
 -- the edges of a slot, from the highest field down
-pub edges-inside : (t : List ℕ) (stop : Stop) (clock : ℕ) (ws : List ℕ) (s m : ℕ) → Ready (records_of t) stop clock ws s m → s < length t / 16
+pub edges-inside : (t : List ℕ) (stop : Option Slot) (clock : ℕ) (ws : List ℕ) (s m : ℕ) → Ready (records_of t) stop clock ws s m → s < length t / 16
 edges-inside t stop clock ws s m g = omega (arith, g.below, records-length t)
 
-module _ (rs : List Record) (stop : Stop) (clock : ℕ) (ws ws' : List ℕ) (s c : ℕ) (w : Walked rs stop clock ws ws' c) where
+module _ (rs : List Record) (stop : Option Slot) (clock : ℕ) (ws ws' : List ℕ) (s c : ℕ) (w : Walked rs stop clock ws ws' c) where
   walked-looped : c ≡ 0 → Follows rs stop clock ws ws' s 1 3 0
   walked-looped e = record { walked = stuck rs stop clock ws ws' (w.looped e) w.rest; before = λ d. absurd (d refl) }
 
@@ -143,7 +141,7 @@ module _ (rs : List Record) (stop : Stop) (clock : ℕ) (ws ws' : List ℕ) (s c
   walked-falls : (c ≡ 0 → ⊥) → (t : ℕ) → 8 * unvisited (length rs) ws + 3 ≡ t → 8 * unvisited (length rs) ws' + 2 < t
   walked-falls d t q = omega (arith, unvisited-kept (length rs) ws ws' (w.done d).kept)
 
-module _ (rs : List Record) (stop : Stop) (clock : ℕ) (ws ws' : List ℕ) (s low high c : ℕ) (v : Follows rs stop clock ws ws' s low high c) where
+module _ (rs : List Record) (stop : Option Slot) (clock : ℕ) (ws ws' : List ℕ) (s low high c : ℕ) (v : Follows rs stop clock ws ws' s low high c) where
   pub edges-looped : c ≡ 0 → Follows rs stop clock ws ws' s 1 3 0
   edges-looped = walked-looped rs stop clock ws ws' s c v.walked
 
@@ -173,38 +171,38 @@ module _ (rs : List Record) (stop : Stop) (clock : ℕ) (ws ws' : List ℕ) (s l
       more-falls = walked-falls rs stop clock ws ws'' s r walked_on
 
 -- the next lower field
-module _ (rs : List Record) (stop : Stop) (clock : ℕ) (ws ws' ws'' : List ℕ) (s f high c r : ℕ) where
+module _ (rs : List Record) (stop : Option Slot) (clock : ℕ) (ws ws' ws'' : List ℕ) (s f high c r : ℕ) where
   pub edges_more : Follows rs stop clock ws ws' s (f + 1) high c → (c ≡ 0 → ⊥) → Follows rs stop c ws' ws'' s f f r → Follows rs stop clock ws ws'' s f high r
   edges_more v d v' = record {
     walked = walked_on rs stop clock ws ws' s (f + 1) high c v d ws'' f r v';
     before = λ e h x l k i. go e h x l k i (eqb h f) refl;
   }
     where
-      go : (r ≡ 0 → ⊥) → (h : ℕ) (x : Slot) → f ≤ h → h ≤ high → edge_at (record_in rs s) h ≡ To x → (b : Bool) → eqb h f ≡ b → Before stop ws'' r x.0
+      go : (r ≡ 0 → ⊥) → (h : ℕ) (x : Slot) → f ≤ h → h ≤ high → edge_at (record_in rs s) h ≡ Some x → (b : Bool) → eqb h f ≡ b → Before stop ws'' r x.0
       go e h x l k i true t = let q : h ≡ f = eqb-true h f t in v'.before e h x l (omega arith) i
       go e h x l k i false t =
           let q : h ≡ f → ⊥ = eqb-false h f t in
           let a : Leaves rs stop c r ws' ws'' = v'.walked.done e in
           before-kept stop ws' ws'' c r x.0 a.kept a.later (v.before d h x (omega (arith, q)) k i)
 
-module _ (t : List ℕ) (stop : Stop) (clock : ℕ) (ws : List ℕ) (s f : ℕ) (q : Record) (e : Edge) (a : q ≡ record_at t s) (b : e ≡ edge_at q f)
+module _ (t : List ℕ) (stop : Option Slot) (clock : ℕ) (ws : List ℕ) (s f : ℕ) (q : Record) (e : Option Slot) (a : q ≡ record_at t s) (b : e ≡ edge_at q f)
     (g : Ready (records_of t) stop clock ws s 1) where
   edge-is : edge_at (record_in (records_of t) s) f ≡ e
   edge-is = ap (λ (r : Record). edge_at r f) (records-at t s (omega (arith, g.below, records-length t)) ∙ sym a) ∙ sym b
 
-  pub edge-nowhere : e ≡ Nowhere → Follows (records_of t) stop clock ws ws s f f clock
-  edge-nowhere n = record {
+  pub edge-none : e ≡ None → Follows (records_of t) stop clock ws ws s f f clock
+  edge-none n = record {
     walked = stays (records_of t) stop clock ws g.walking;
     before = λ d h x l m i. absurd (no_way x h (edge_by x h l m i));
   }
     where
-      edge_by : (x : Slot) (h : ℕ) → f ≤ h → h ≤ f → edge_at (record_in (records_of t) s) h ≡ To x → edge_at (record_in (records_of t) s) f ≡ To x
-      edge_by x h l m i = subst (λ (k : ℕ). edge_at (record_in (records_of t) s) k ≡ To x) (let d : h ≡ f = omega arith in d) i
+      edge_by : (x : Slot) (h : ℕ) → f ≤ h → h ≤ f → edge_at (record_in (records_of t) s) h ≡ Some x → edge_at (record_in (records_of t) s) f ≡ Some x
+      edge_by x h l m i = subst (λ (k : ℕ). edge_at (record_in (records_of t) s) k ≡ Some x) (let d : h ≡ f = omega arith in d) i
 
-      no_way : (x : Slot) (h : ℕ) → edge_at (record_in (records_of t) s) f ≡ To x → ⊥
+      no_way : (x : Slot) (h : ℕ) → edge_at (record_in (records_of t) s) f ≡ Some x → ⊥
       no_way x h i = let z : ◌≡◌ {A = ℕ} 0 1 = cc edge-is in omega arith
 
-  module _ (x : Slot) (n : e ≡ To x) where
+  module _ (x : Slot) (n : e ≡ Some x) where
     pub edge-coming : Coming (records_of t) stop clock ws x.0
     edge-coming = record {
       fits = g.fits;
@@ -219,10 +217,10 @@ module _ (t : List ℕ) (stop : Stop) (clock : ℕ) (ws : List ℕ) (s f : ℕ) 
       before = λ d h y l m i. subst (λ (z : Slot). Before stop ws' r z.0) (same y h l m i) (v.before d);
     }
       where
-        same : (y : Slot) (h : ℕ) → f ≤ h → h ≤ f → edge_at (record_in (records_of t) s) h ≡ To y → x ≡ y
+        same : (y : Slot) (h : ℕ) → f ≤ h → h ≤ f → edge_at (record_in (records_of t) s) h ≡ Some y → x ≡ y
         same y h l m i = let d : h ≡ f = omega arith in cc edge-is
 
-module _ (rs : List Record) (stop : Stop) (clock : ℕ) (ws ws₁ : List ℕ) (s : ℕ) (g : Ready rs stop clock ws s 0) (o : ws₁ ≡ set ws s 1) where
+module _ (rs : List Record) (stop : Option Slot) (clock : ℕ) (ws ws₁ : List ℕ) (s : ℕ) (g : Ready rs stop clock ws s 0) (o : ws₁ ≡ set ws s 1) where
   pub visit-falls : (t : ℕ) → 8 * unvisited (length rs) ws ≡ t → 8 * unvisited (length rs) ws₁ + 3 < t
   visit-falls t q = omega (arith, opens-fewer rs stop clock ws s g ws₁ o)
 
@@ -240,7 +238,7 @@ module _ (rs : List Record) (stop : Stop) (clock : ℕ) (ws ws₁ : List ℕ) (s
       pub visit-next : Fits w32 (c + 1)
       visit-next = Fits-under w32 (c + 1) 65536 (omega (arith, (v.walked.done d).walking.room, g.fits.few)) tt
 
-      all_edges : (f : ℕ) (x : Slot) → edge_at (record_in rs s) f ≡ To x → Before stop ws₂ c x.0
+      all_edges : (f : ℕ) (x : Slot) → edge_at (record_in rs s) f ≡ Some x → Before stop ws₂ c x.0
       all_edges f x i = v.before d f x (edge-range (record_in rs s) f x i).0 (edge-range (record_in rs s) f x i).1 i
 
       pub visit-done : (ws₃ : List ℕ) → length ws₂ ≡ length ws₁ → ws₃ ≡ set ws₂ s c → Visits rs stop clock ws ws₃ s (c + 1)

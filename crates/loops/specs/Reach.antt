@@ -1,24 +1,23 @@
 -- Loops (paper, refusal 8): a bit reaches itself through operands. Slots are numbers here. Assumes nothing: these are definitions.
-use Rattle.std.specs.Prelude.{◌≡◌, Bool, false, ◌||◌, List, map, ℕ, zero, suc, eqb, length, get_or}
+use Rattle.std.specs.Prelude.{◌≡◌, Bool, false, ◌||◌, List, map, ℕ, zero, suc, eqb, length, get_or, Option, Some, None}
+use Rattle.value.specs.declared.Slot.{Slot}
 use Rattle.value.specs.Value.{slot_at}
 use Rattle.cell.specs.declared.Record.{Record}
-use Rattle.cell.specs.declared.Edge.{Edge}
-use Rattle.cell.specs.declared.Edge.TheVariants.{To, Nowhere}
 use Rattle.cell.specs.Operands.{edge_at}
 use Rattle.cell.specs.Records.{record_in}
 
 -- the relation: slot s reaches slot y by one combinational edge or more
 pub data Reaches (rs : List Record) : ℕ → ℕ → Type 0 where
-  edge : {s y : ℕ} (f : ℕ) → edge_at (record_in rs s) f ≡ To (slot_at y) → Reaches rs s y
-  path : {s x y : ℕ} (f : ℕ) → edge_at (record_in rs s) f ≡ To (slot_at x) → Reaches rs x y → Reaches rs s y
+  edge : {s y : ℕ} (f : ℕ) → edge_at (record_in rs s) f ≡ Some (slot_at y) → Reaches rs s y
+  path : {s x y : ℕ} (f : ℕ) → edge_at (record_in rs s) f ≡ Some (slot_at x) → Reaches rs x y → Reaches rs s y
 
 abbrev pub OnLoop : List Record → ℕ → Type 0
 OnLoop rs s = Reaches rs s s
 
 -- the same computed. An edge of a record leads to a slot with the property p
-abbrev pub hits : (ℕ → Bool) → Edge → Bool
-hits p (To x) = p x.0
-hits p Nowhere = false
+abbrev pub hits : (ℕ → Bool) → Option Slot → Bool
+hits p (Some x) = p x.0
+hits p None = false
 
 abbrev pub leads : (ℕ → Bool) → Record → Bool
 leads p r = hits p (edge_at r 1) || hits p (edge_at r 2) || hits p (edge_at r 3)

@@ -3,14 +3,13 @@ use mathlib.Core.Path.{◌≡◌, refl, sym, ap, ◌∙◌, subst}
 use mathlib.Core.Bool.{Bool, true, false, cond}
 use mathlib.Core.List.{List}
 use mathlib.Core.Logic.{inl}
-use Prim.Native.Nat.{ℕ, suc, ◌+◌, ◌*◌, ◌≤◌, ◌<◌}
+use Prim.Native.Nat.{ℕ, zero, suc, ◌+◌, ◌-◌, ◌*◌, ◌≤◌, ◌<◌}
 use native.Mathlib.Omega.{arith}
 use native.Mathlib.Numerals.{add-one}
 use native.Mathlib.Decide.{dec_lt}
 use lib.Dec.{eqb}
 use lib.ListN.{length, get_or, drop, drop_of_length-le}
 use lib.Seq.{drop-cons}
-use borrow.Author.Tests.{eq-eqb, ne_eqb}
 use Rattle.value.specs.declared.Net.{Net}
 use Rattle.value.specs.Value.{net_at}
 use Rattle.cell.specs.declared.Record.{Record}
@@ -31,42 +30,38 @@ use Rattle.merge.specs.Merge.{key_of}
 use Rattle.merge.specs.inner.Words.{key_fields, key_in, Keys, width_of}
 use Rattle.merge.proofs.Keys.{key-fields}
 
--- the loop of `cell_end`
-pub record Ending (n : ℕ) (ws : List ℕ) (e₀ e : ℕ) : Type 0 where
-  pub upto : e ≤ n
-  pub passed : e₀ + run (drop e₀ (netlist_in n ws).bits) ≡ e + run (drop e (netlist_in n ws).bits)
-
-pub ending-none : (n : ℕ) (ws : List ℕ) (s : ℕ) → s < n → Ending n ws (s + 1) (s + 1)
-ending-none n ws s h = record { upto = omega arith; passed = refl }
-
+-- the slot behind a cell
 run_at : (n : ℕ) (ws : List ℕ) (e : ℕ) → e < n
     → run (drop e (netlist_in n ws).bits) ≡ cond (eqb (word_record ws e).bit 0) 0 (suc (run (drop (e + 1) (netlist_in n ws).bits)))
 unfolding run
 run_at n ws e l = rw (drop-cons (netlist_in n ws).bits e 0 (omega (arith, bits-length n ws)), bit_at n ws e l, add-one)
 
-pub ending-more : (n : ℕ) (ws : List ℕ) (e₀ e : ℕ) → Ending n ws e₀ e → e < n → (r : Record) → r ≡ word_record ws e → (r.bit ≡ 0 → ⊥) → Ending n ws e₀ (e + 1)
-ending-more n ws e₀ e g l r r-is h =
-    let z : eqb (word_record ws e).bit 0 ≡ false = ne_eqb (word_record ws e).bit 0 (λ q. h (ap (λ (x : Record). x.bit) r-is ∙ q)) in
-    record {
-      upto = omega arith;
-      passed = omega (arith, g.passed, run_at n ws e l ∙ ap (λ (b : Bool). cond b 0 (suc (run (drop (e + 1) (netlist_in n ws).bits)))) z);
-    }
+run-passed : (n : ℕ) (ws : List ℕ) (i e m : ℕ) → i + m ≡ e → e ≤ n → ((j : ℕ) → i ≤ j → j < e → eqb (word_record ws j).bit 0 ≡ false)
+    → i + run (drop i (netlist_in n ws).bits) ≡ e + run (drop e (netlist_in n ws).bits)
+run-passed n ws i e zero q h p = ap (λ (k : ℕ). k + run (drop k (netlist_in n ws).bits)) (let z : i ≡ e = omega arith in z)
+run-passed n ws i e (suc m) q h p =
+    omega (
+      arith,
+      run_at n ws i (omega arith) ∙ ap (λ (b : Bool). cond b 0 (suc (run (drop (i + 1) (netlist_in n ws).bits)))) (p i (omega arith) (omega arith)),
+      run-passed n ws (i + 1) e m (omega arith) h (λ j a b. p j (omega arith) b),
+    )
 
-module _ (n : ℕ) (ws : List ℕ) (s e : ℕ) (g : Ending n ws (s + 1) e) where
-  ended : run (drop e (netlist_in n ws).bits) ≡ 0 → e ≡ s + width_of (netlist_in n ws).bits s
-  unfolding width_of
-  ended z = omega (arith, z, g.passed)
+run-ends : (n : ℕ) (ws : List ℕ) (e : ℕ) → (e < n → eqb (word_record ws e).bit 0 ≡ true) → Dec (e < n) → run (drop e (netlist_in n ws).bits) ≡ 0
+unfolding run
+run-ends n ws e z (yes l) = run_at n ws e l ∙ ap (λ (b : Bool). cond b 0 (suc (run (drop (e + 1) (netlist_in n ws).bits)))) (z l)
+run-ends n ws e z (no l) =
+    let past : length (netlist_in n ws).bits ≤ e = omega (arith, bits-length n ws) in
+    ap run (drop_of_length-le (netlist_in n ws).bits past)
 
-  pub ending-stop : e < n → (r : Record) → r ≡ word_record ws e → r.bit ≡ 0 → e ≡ s + width_of (netlist_in n ws).bits s
-  ending-stop l r r-is h =
-      let z : eqb (word_record ws e).bit 0 ≡ true = eq-eqb (word_record ws e).bit 0 (sym (ap (λ (x : Record). x.bit) r-is) ∙ h) in
-      ended (run_at n ws e l ∙ ap (λ (b : Bool). cond b 0 (suc (run (drop (e + 1) (netlist_in n ws).bits)))) z)
-
-  pub ending-all : n ≤ e → e ≡ s + width_of (netlist_in n ws).bits s
-  unfolding run
-  ending-all h =
-      let past : length (netlist_in n ws).bits ≤ e = omega (arith, bits-length n ws) in
-      ended (ap run (drop_of_length-le (netlist_in n ws).bits past))
+pub cell-ends : (n : ℕ) (ws : List ℕ) (s e : ℕ) → s < e → e ≤ n → ((j x : ℕ) → x ≡ get_or ws j 0 → s < j → j < e → eqb (word_record ws j).bit 0 ≡ false)
+    → (e < n → eqb (word_record ws e).bit 0 ≡ true) → e ≡ s + width_of (netlist_in n ws).bits s
+unfolding width_of
+cell-ends n ws s e l h p z =
+    omega (
+      arith,
+      run-passed n ws (s + 1) e (e - (s + 1)) (omega arith) h (λ j a b. p j (get_or ws j 0) refl (omega arith) b),
+      run-ends n ws e z (dec_lt e n),
+    )
 
 -- stores behind the replaced nets
 module _ (from to n : ℕ) (ws ws' : List ℕ) (far : figures_at ≤ from) (few : n ≤ 512) (w : Within from to ws ws') where

@@ -75,7 +75,6 @@ sum-prefix f ws j (suc count) h = go (sum-prefix f ws j count) (dec_lt j (suc co
 
 -- the loop of `merge_cells`
 pub record Turning (n count : ℕ) (ws₀ ws : List ℕ) (k j : ℕ) : Type 0 where
-  pub upto : j ≤ count
   pub ordered : Ordered n count ws₀
   pub said : merging_in n k ws ≡ merge_cells (netlist_in n ws₀) (merging_in n 0 ws₀) (those (looks_for (netlist_in n ws₀)) (words_in order_at j ws₀))
   pub ready : Ready n k ws
@@ -85,7 +84,6 @@ pub record Turning (n count : ℕ) (ws₀ ws : List ℕ) (k j : ℕ) : Type 0 wh
 pub turning-none : (n count : ℕ) (ws : List ℕ) → Ordered n count ws → Turning n count ws ws 0 0
 unfolding words_in tabulate those merge_cells
 turning-none n count ws g = record {
-  upto = omega arith;
   ordered = g;
   said = refl;
   ready = record { long = g.long; few = g.few; entered = entered-none ws; mixed = mixed-none ws };
@@ -125,7 +123,6 @@ module _ (n count : ℕ) (ws₀ ws : List ℕ) (k j : ℕ) (g : Turning n count 
     turning-more ws' k' m =
         let d : Netlist = netlist_in n ws₀ in
         record {
-          upto = omega arith;
           ordered = g.ordered;
           said =
               m.said ∙ ap (λ (e : Netlist). merge_cells e (merging_in n k ws) (those (looks_for e) (s ∷ []))) netlist-same
@@ -138,10 +135,10 @@ module _ (n count : ℕ) (ws₀ ws : List ℕ) (k j : ℕ) (g : Turning n count 
           frame = within-then replaced_at free_at ws₀ ws ws' g.frame m.frame;
         }
 
-  pub turning-all : count ≤ j → MergesCells n count ws₀ ws
+  pub turning-all : j ≤ count → count ≤ j → MergesCells n count ws₀ ws
   unfolding merging_in
-  turning-all h =
-      let q : j ≡ count = let u : j ≤ count = g.upto in omega arith in
+  turning-all m h =
+      let q : j ≡ count = omega arith in
       let d : Netlist = netlist_in n ws₀ in
       record {
         said = subst (λ (i : ℕ). design_in n ws ≡ (merge_cells d (merging_in n 0 ws₀) (those (looks_for d) (words_in order_at i ws₀))).design) q

@@ -15,8 +15,7 @@ use Rattle.netlist.specs.inner.Areas.{word_record, store_words, Within, figures_
 use Rattle.netlist.specs.Shape.{visit_mut}
 use Rattle.netlist.specs.Netlist.{cell_in, output_of}
 use Rattle.netlist.proofs.Frames.{within_none, within-then, within_wider, tabulate-same, record-kept, records-kept}
-use Rattle.numberer.specs.declared.Found.{Found}
-use Rattle.numberer.specs.declared.Found.TheVariants.{Nothing, At}
+use Rattle.std.proofs.Common.{Option, Some, None}
 use Rattle.design.specs.Queue.{map_net_new}
 use Rattle.numberer.specs.Numberer.{seek}
 use Rattle.design.specs.inner.Words.{netlist_in, replaced_in, design_in}
@@ -56,32 +55,32 @@ module _ (ws : List ℕ) (s : ℕ) (keyed : Keyed s (s + 1) ws) (key : Record) (
   unfolding key_at
   key-cell = ap cell_of key-is
 
-  module _ (n k : ℕ) (g : Ready n k ws) (v : Found) (v-is : v ≡ seek (numberer_in k ws) (cell_of key)) where
-    numbered-by : (d : Found) → v ≡ d → find_or_insert (merging_in n k ws) (key_at ws s) s (seek (numberer_in k ws) (key_at ws s)) ≡ find_or_insert (merging_in n k ws) (key_at ws s) s d
+  module _ (n k : ℕ) (g : Ready n k ws) (v : Option Net) (v-is : v ≡ seek (numberer_in k ws) (cell_of key)) where
+    numbered-by : (d : Option Net) → v ≡ d → find_or_insert (merging_in n k ws) (key_at ws s) s (seek (numberer_in k ws) (key_at ws s)) ≡ find_or_insert (merging_in n k ws) (key_at ws s) s d
     numbered-by d e =
         ap (find_or_insert (merging_in n k ws) (key_at ws s) s) (ap (seek (numberer_in k ws)) (sym key-cell) ∙ sym v-is ∙ e)
 
-    pub numbers-found : (x : Net) → v ≡ At x → (ws' : List ℕ) → replaced_in n ws' ≡ set (replaced_in n ws) s x → Within replaced_at figures_at ws ws' → Numbers n k s ws ws' k
+    pub numbers-found : (x : Net) → v ≡ Some x → (ws' : List ℕ) → replaced_in n ws' ≡ set (replaced_in n ws) s x → Within replaced_at figures_at ws ws' → Numbers n k s ws ws' k
     unfolding merging_in design_in
     numbers-found x e ws' q w =
         let few : n ≤ 512 = g.few in
         record {
           said =
               rw (q, records-kept replaced_at figures_at ws ws' w n (omega arith), numberer-stays replaced_at figures_at ws ws' w k (inl (omega arith)))
-              (sym (numbered-by (At x) e));
+              (sym (numbered-by (Some x) e));
           ready = ready-stays replaced_at figures_at ws ws' w k (inl (omega arith)) n g;
           most = omega arith;
           frame = within_wider replaced_at figures_at replaced_at keys_from ws ws' (omega arith) (omega arith) w;
         }
 
-    pub numbers-new : (ws' : List ℕ) → ws' ≡ set (store_words ws (numberer_at + k) key) (mixes_at + k) (mix_of key) → k < 1024 → s < n → v ≡ Nothing → Numbers n k s ws ws' (k + 1)
+    pub numbers-new : (ws' : List ℕ) → ws' ≡ set (store_words ws (numberer_at + k) key) (mixes_at + k) (mix_of key) → k < 1024 → s < n → v ≡ None → Numbers n k s ws ws' (k + 1)
     unfolding merging_in
     numbers-new ws' put room small e =
         let few : n ≤ 512 = g.few in
         let long : 16384 ≤ length ws = g.long in
         let q : Inserts k s (key_at ws s) ws ws' = inserts ws k key s (key_at ws s) key-of-slot ws' put long room (omega arith) in
         record {
-          said = rw (design-stays mixes_at keys_from n ws ws' (omega arith) few q.frame, q.said) (sym (numbered-by Nothing e));
+          said = rw (design-stays mixes_at keys_from n ws ws' (omega arith) few q.frame, q.said) (sym (numbered-by None e));
           ready = record {
             long = omega (arith, q.frame.same);
             few = few;
@@ -103,7 +102,6 @@ insert-more m (b ∷ bs) c s = insert-more (step m b.0 b.1) bs c s
 
 pub record Numbering (n k₀ s e : ℕ) (ws₀ ws : List ℕ) (k i : ℕ) : Type 0 where
   pub from : s ≤ i
-  pub upto : i ≤ e
   pub inside : e ≤ n
   pub room : k₀ + (e - s) ≤ 1024
   pub keyed : Keyed s e ws₀
@@ -118,7 +116,6 @@ numbering-none n k s e ws g q a b r =
     let z : s - s ≡ 0 = omega arith in
     record {
       from = omega arith;
-      upto = a;
       inside = b;
       room = r;
       keyed = q;
@@ -151,7 +148,6 @@ module _ (n k₀ s e : ℕ) (ws₀ ws : List ℕ) (k i : ℕ) (g : Numbering n k
       let more : k' ≤ k + 1 = q.most in
       record {
         from = omega arith;
-        upto = omega arith;
         inside = g.inside;
         room = g.room;
         keyed = g.keyed;
@@ -163,9 +159,9 @@ module _ (n k₀ s e : ℕ) (ws₀ ws : List ℕ) (k i : ℕ) (g : Numbering n k
         frame = within-then replaced_at keys_from ws₀ ws ws' g.frame q.frame;
       }
 
-  pub numbering-all : e ≤ i → NumbersAll n k₀ s e ws₀ ws k
-  numbering-all h =
-      let z : i ≡ e = let u : i ≤ e = g.upto in omega arith in
+  pub numbering-all : (s ≤ e → i ≤ e) → s ≤ e → e ≤ i → NumbersAll n k₀ s e ws₀ ws k
+  numbering-all m l h =
+      let z : i ≡ e = let u : i ≤ e = m l in omega arith in
       record {
         said = subst (λ (x : ℕ). merging_in n k ws ≡ find_or_insert_all (merging_in n k₀ ws₀) (tabulate (λ j. (key_at ws₀ (s + j), s + j)) (x - s))) z g.said;
         ready = g.ready;

@@ -7,8 +7,8 @@ use Rattle.netlist.specs.Shape.{visit_mut, has_effects}
 use Rattle.netlist.specs.Netlist.{Netlist, cell_in, output_of}
 use Rattle.basics.specs.Lists.{those}
 use Rattle.order.specs.Orders.{iter_cells_topo}
-use Rattle.numberer.specs.declared.Found.{Found}
-use Rattle.numberer.specs.declared.Found.TheVariants.{Nothing, At}
+use Rattle.std.specs.Prelude.{Option, Some, None}
+use Rattle.value.specs.declared.Net.{Net}
 use Rattle.design.specs.Queue.{Design, unchanged, net_in, map_net_new, replace_net, applied, did_change}
 use Rattle.numberer.specs.Numberer.{Entry, seek}
 use Rattle.compact.specs.Compact.{compact}
@@ -36,9 +36,9 @@ pub record Merging : Type 0 where
   pub numberer : List Entry
 
 -- `Numberer::find_or_insert` for the net of a slot, and `replace_value` for that net
-abbrev pub find_or_insert : Merging → Cell → ℕ → Found → Merging
-find_or_insert m key s (At n) = record { design = replace_net m.design s n; numberer = m.numberer }
-find_or_insert m key s Nothing = record { design = m.design; numberer = m.numberer ++ ((key, net_in s) ∷ []) }
+abbrev pub find_or_insert : Merging → Cell → ℕ → Option Net → Merging
+find_or_insert m key s (Some n) = record { design = replace_net m.design s n; numberer = m.numberer }
+find_or_insert m key s None = record { design = m.design; numberer = m.numberer ++ ((key, net_in s) ∷ []) }
 
 unfoldable pub find_or_insert_all : Merging → List (Cell × ℕ) → Merging
 find_or_insert_all m [] = m

@@ -9,18 +9,14 @@ ghost use Rattle.merge.specs.inner.Words.{turned, key_fields, key_in, Ready, Key
 
 use cell::Record;
 use netlist::{area, fields};
-use numberer::Found;
 use value::Slot;
 
 // Whether a commutative cell's operands are exchanged in its key; its record has nothing in fields that its kind does not use.
 fn is_turned(r: Record) -> bool
     ensures { result ≡ turned r }
 {
-    let descends = basics::both(r.flags != 2, !(r.a <= r.b));
-    basics::both(
-        kinds::operands_commute(r.kind),
-        basics::either(r.flags == 1, descends),
-    )
+    let descends = (r.flags != 2) & !(r.a <= r.b);
+    kinds::operands_commute(r.kind) & ((r.flags == 1) | descends)
 }
 
 // The record of the key of a cell's record, with a bit of its own.
@@ -30,10 +26,10 @@ fn key_record(bit: u16, r: Record) -> Record
     let turned = is_turned(r);
     Record {
         kind: r.kind,
-        flags: basics::pick8(r.flags == 1, 2, r.flags),
+        flags: basics::pick(r.flags == 1, 2, r.flags),
         bit,
-        a: basics::pick32(turned, r.b, r.a),
-        b: basics::pick32(turned, r.a, r.b),
+        a: basics::pick(turned, r.b, r.a),
+        b: basics::pick(turned, r.a, r.b),
         c: r.c,
     }
 }
@@ -55,14 +51,9 @@ fn cell_end(work: &[u32], n: u32, s: Slot) -> u32
     ensures value { result ≡ s.0 + width_of (netlist_in n work.now).bits s.0 }
     ensures upper_bound { result ≤ n }
 {
-    let mut e = s.0 + 1;
-    while e < n {
-        if netlist::record_in(work, Slot(e)).bit == 0 {
-            return e;
-        }
-        e += 1;
-    }
-    e
+    (s.0 + 1..n)
+        .find(|e| netlist::record_in(work, Slot(*e)).bit == 0)
+        .unwrap_or(n)
 }
 
 // Puts the keys of the slots from s up to e into their places, before the first of them is looked for.
@@ -72,10 +63,8 @@ fn put_keys(work: &mut [u32], n: u32, s: Slot, e: u32)
     requires e_le_n { e ≤ n }
     ensures { Keys n s.0 e work.old work.new }
 {
-    let mut i = s.0;
-    while i < e {
+    for i in s.0..e {
         put_key(work, n, Slot(i));
-        i += 1;
     }
 }
 
@@ -89,11 +78,11 @@ fn find_or_insert(work: &mut [u32], n: u32, k: u32, s: Slot) -> u32
 {
     let key = netlist::record_in(work, Slot(area::KEYS + s.0));
     match numberer::find(work, k, key) {
-        Found::At(x) => {
+        Some(x) => {
             design::queue::replace_net(work, n, s, x);
             k
         }
-        Found::Nothing => {
+        None => {
             numberer::insert(work, k, key);
             k + 1
         }
@@ -109,11 +98,9 @@ fn find_or_insert_all(work: &mut [u32], n: u32, k: u32, s: Slot, e: u32) -> u32
     requires s_bound { k + (e - s.0) ≤ 1024 }
     ensures { NumbersAll n k s.0 e work.old work.new result }
 {
-    let mut i = s.0;
     let mut count = k;
-    while i < e {
+    for i in s.0..e {
         count = find_or_insert(work, n, count, Slot(i));
-        i += 1;
     }
     count
 }
@@ -149,11 +136,9 @@ fn merge_cells(work: &mut [u32], n: u32, count: u32)
     ensures { MergesCells n count work.old work.new }
 {
     let mut k: u32 = 0;
-    let mut j: u32 = 0;
-    while j < count {
-        let s = basics::word(work, area::ORDER + (j as usize));
+    for j in 0..count {
+        let s = basics::get_or(work, area::ORDER + (j as usize), 0);
         k = merge_next(work, n, k, Slot(s));
-        j += 1;
     }
 }
 

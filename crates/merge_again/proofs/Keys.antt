@@ -6,7 +6,7 @@ use Rattle.value.specs.declared.Net.{Net}
 use Rattle.value.specs.Value.{le_net, le_control}
 use Rattle.cell.specs.declared.Cell.{Cell}
 use Rattle.cell.specs.declared.Cell.TheVariants.{Input, Output, Buf, Not, And, Or, Xor, Mux, Aig}
-use Rattle.design.specs.declared.Source.{Source}
+use Rattle.design.specs.Queue.{Source}
 use Rattle.merge.specs.Merge.{key_of}
 use Rattle.aig.specs.Aig.{simple_aig_opt}
 use Rattle.normal.specs.Paired.{exchange, Alike}

@@ -17,7 +17,7 @@ use Rattle.basics.proofs.Tables.{tabulate-length, tabulate-at}
 use Rattle.netlist.specs.Shape.{visit, visit_mut, has_effects}
 use Rattle.netlist.specs.Netlist.{Netlist, cell_in}
 use Rattle.order.specs.Orders.{iter_cells_topo}
-use Rattle.numberer.specs.declared.Found.TheVariants.{Nothing}
+use Rattle.std.proofs.Common.{None}
 use Rattle.design.specs.Queue.{Design, unchanged, net_in, driven_to, map_net_new, applied, did_change, eq_cell}
 use Rattle.numberer.specs.Numberer.{Entry, seek}
 use Rattle.compact.specs.Compact.{compact}
@@ -105,7 +105,7 @@ module _ (d : Netlist) (rank : ℕ → ℕ) (normal : Normal d rank) where
       (λ q. q)
 
   -- a gate is entered
-  entered : (done : List ℕ) (m : Merging) (s : ℕ) → has_effects (at s) ≡ false → has s done ≡ false → Idle done m → merge_cell d m s ≡ find_or_insert m (key_of (at s)) s Nothing
+  entered : (done : List ℕ) (m : Merging) (s : ℕ) → has_effects (at s) ≡ false → has s done ≡ false → Idle done m → merge_cell d m s ≡ find_or_insert m (key_of (at s)) s None
   unfolding merge_cell find_or_insert_all
   entered done m s g n h =
       let key : ℕ → Cell = λ i. key_of (visit_mut (map_net_new m.design.replaced) (at i)) in

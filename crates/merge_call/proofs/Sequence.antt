@@ -8,13 +8,13 @@ use native.Mathlib.Omega.{arith}
 use lib.Dec.{eqb}
 use lib.ListN.{length, get_or, length-map}
 use borrow.Author.Tests.{eqb-true}
+use Rattle.std.specs.Prelude.{Ok}
 use Rattle.cell.specs.declared.Record.{Record}
 use Rattle.kinds.specs.Kinds.{kind_of}
 use Rattle.cell.specs.Records.{record_of, record_in}
 use Rattle.netlist.specs.Netlist.{netlist_of}
 use Rattle.basics.proofs.Tables.{map_at}
 use Rattle.merge.specs.inner.Words.{Sequenced}
-use Rattle.refusals.specs.declared.Verdict.TheVariants as verdict
 use Rattle.refusals.specs.Refusals.{first_of}
 use Rattle.checking.specs.Checking.{follows, out_of_sequence, bit_out_of_sequence, netlist_stages}
 use Rattle.checking.proofs.Groups.{bit-exactly, records-exactly, netlist-exactly}
@@ -38,7 +38,7 @@ in-sequence s p r h =
     (λ e. inr (sym (eqb-true (p.bit + 1) r.bit (second (eqb p.kind r.kind) (eqb (p.bit + 1) r.bit) (not (kind_of r.kind).common_a || eqb p.a r.a) e))))
     (bit-or-next (eqb r.bit 0) (kind_of r.kind).one_bit (eqb s 0) (follows p r) h)
 
-module _ (rs : List Record) (passed : first_of (netlist_stages rs) ≡ verdict.Pass) where
+module _ (rs : List Record) (passed : first_of (netlist_stages rs) ≡ Ok tt) where
   bit-of : (s : ℕ) → s < length rs → get_or (netlist_of rs).bits s 0 ≡ (record_in rs s).bit
   unfolding netlist_of
   bit-of s l = map_at (λ (r : Record). r.bit) rs s 0 (record_of 0 0 0 0 0 0) l

@@ -9,13 +9,15 @@ use native.Mathlib.Nat.{div-div-eq-div-mul}
 use native.Mathlib.Decide.{dec_lt}
 use lib.ListN.{length, get_or, set, length-set}
 use lib.Seq.{get_or-set_same, get_or-set_other}
+use mir.Syntax.{w8}
+use mir.Val.{Fits}
 use Rattle.cell.specs.declared.Record.{Record}
 use Rattle.cell.specs.Bytes.{word16}
 use Rattle.basics.specs.Lists.{tabulate}
 use Rattle.cell.specs.Records.{record_at, records_of}
 use Rattle.cell.proofs.RoundTrips.{low, high}
 use Rattle.netlist.specs.inner.Areas.{word_record, store_words, records_in, Within, visited_at, numberer_from, numberer_at, keys_from, keys_at, areas, in_order}
-use Rattle.netlist.proofs.Frames.{within_none, within-then, within_wider, within-set, record-kept, tabulate-same}
+use Rattle.netlist.proofs.Frames.{within-then, within_wider, within-set, record-kept, tabulate-same}
 
 -- the words after the first, the second and the third store
 abbrev head : Record → ℕ
@@ -100,23 +102,18 @@ sized t s r bytes e =
     subst Sized (sym e) (record { kind = bytes (s * 16); flags = bytes (s * 16 + 1); bit = omega (arith, bytes (s * 16 + 2), bytes (s * 16 + 2 + 1)) })
 
 -- the loop of `load`
-pub record Loading (t : List ℕ) (n : ℕ) (ws₀ ws : List ℕ) (s : ℕ) : Type 0 where
-  pub upto : s ≤ n
+pub record Loading (t : List ℕ) (ws₀ ws : List ℕ) (s : ℕ) : Type 0 where
   pub long : 16384 ≤ length ws₀
   pub loaded : (u : ℕ) → u < s → word_record ws u ≡ record_at t u
   pub frame : Within 0 visited_at ws₀ ws
 
-pub loading-none : (t : List ℕ) (n : ℕ) (ws : List ℕ) → 16384 ≤ length ws → Loading t n ws ws 0
-loading-none t n ws h = record { upto = omega arith; long = h; loaded = λ u l. absurd (omega arith); frame = within_none 0 visited_at ws }
-
-module _ (t : List ℕ) (n : ℕ) (ws₀ ws : List ℕ) (s : ℕ) (g : Loading t n ws₀ ws s) where
-  pub loading-more : n ≤ 512 → s < n → (ws' : List ℕ) (r : Record) → r ≡ record_at t s → ws' ≡ store_words ws s r → ((k : ℕ) → get_or t k 0 < 256) → Loading t n ws₀ ws' (s + 1)
+module _ (t : List ℕ) (n : ℕ) (ws₀ ws : List ℕ) (s : ℕ) (g : Loading t ws₀ ws s) where
+  pub loading-more : n ≤ 512 → s < n → (ws' : List ℕ) (r : Record) → r ≡ record_at t s → ws' ≡ store_words ws s r → ((k : ℕ) → Fits w8 (get_or t k 0)) → Loading t ws₀ ws' (s + 1)
   loading-more few l ws' r e f bytes =
       let long : 16384 ≤ length ws = let h : 16384 ≤ length ws₀ = g.long in omega (arith, g.frame.same) in
-      subst (λ (vs : List ℕ). Loading t n ws₀ vs (s + 1)) (sym f) (record {
-        upto = omega arith;
+      subst (λ (vs : List ℕ). Loading t ws₀ vs (s + 1)) (sym f) (record {
         long = g.long;
-        loaded = λ u m. go u m long (sized t s r bytes e) (dec_lt u s);
+        loaded = λ u m. go u m long (sized t s r (λ k. (bytes k).fits) e) (dec_lt u s);
         frame = within-then 0 visited_at ws₀ ws (store_words ws s r) g.frame
             (within_wider (s * 4) (s * 4 + 4) 0 visited_at ws (store_words ws s r) (omega arith) (omega arith) (store-within ws s r));
       })
@@ -130,9 +127,6 @@ module _ (t : List ℕ) (n : ℕ) (ws₀ ws : List ℕ) (s : ℕ) (g : Loading t
   pub loading-all : n ≡ length t / 16 → n ≤ s → records_in n ws ≡ records_of t
   unfolding records_in records_of
   loading-all e h = tabulate-same (word_record ws) (record_at t) n (λ u l. g.loaded u (omega arith)) ∙ ap (tabulate (record_at t)) e
-
-  pub loading-frame : Within 0 visited_at ws₀ ws
-  loading-frame = g.frame
 
 -- the areas do not meet, and the two ways of counting agree
 pub areas-apart : (in_order 0 areas ≡ true) × (numberer_at * 4 ≡ numberer_from) × (keys_at * 4 ≡ keys_from)

@@ -1,20 +1,25 @@
 -- The cells of the records in the work slice, and their sorts by kind number. Assumes nothing.
+use Rattle.std.specs.Prelude.{Option, Some, None}
 use mathlib.Core.Path.{◌≡◌, refl, sym, ap, ◌∙◌}
+use mathlib.Core.Bool.{true, false}
+use mathlib.Core.Logic.{◌⊎◌, ⊎_elim}
 use mathlib.Core.List.{List, map}
 use Prim.Native.Nat.{ℕ, ◌*◌, ◌%◌, ◌<◌, ◌≤◌}
 use native.Mathlib.Omega.{arith}
 use lib.Dec.{eqb}
 use lib.ListN.{length, get_or, length-map, get_or-map, get_or-eq_default}
+use Rattle.value.specs.declared.Net.{Net}
 use Rattle.kinds.specs.declared.Sort.TheVariants as sort
 use Rattle.kinds.specs.declared.Sort.{Sort}
 use Rattle.kinds.specs.Kinds.{sort_of, number_of, is_source_sort}
 use Rattle.kinds.proofs.Laws.{rows_agree, by_row}
 use Rattle.kinds.proofs.Tests.{past_one}
 use Rattle.cell.specs.declared.Record.{Record}
-use Rattle.cell.specs.declared.Cell.TheVariants.{Input}
+use Rattle.cell.specs.declared.Cell.{Cell}
+use Rattle.cell.specs.declared.Cell.TheVariants.{Input, Output, Buf, Not, And, Or, Xor, Mux, Aig}
 use Rattle.cell.specs.Records.{record_of, cell_by, cell_of}
 use Rattle.basics.proofs.Tables.{tabulate-length, tabulate-at}
-use Rattle.netlist.specs.Shape.{is_input, is_source, is_output}
+use Rattle.netlist.specs.Shape.{is_input, is_source, is_output, has_effects}
 use Rattle.netlist.specs.Netlist.{cell_in}
 use Rattle.netlist.specs.inner.Areas.{word_record, records_in}
 
@@ -42,18 +47,35 @@ unfolding cell_of rows_agree
 output-kind r =
     sym (by_row (λ k. eqb k (number_of sort.Output)) (λ s. is_output (cell_by s r)) tt (λ k l. past_one (number_of sort.Output) k (omega arith) l) r.kind)
 
+-- both have effects, and nothing else does
+pub effects-of : (c : Cell) → ((l : ℕ) × (c ≡ Input l)) ⊎ ((a : Net) × (l : ℕ) × (c ≡ Output a l)) → true ≡ has_effects c
+unfolding has_effects
+effects-of c = ⊎_elim (λ p. sym (ap has_effects p.1)) (λ p. sym (ap has_effects p.2))
+
+pub no-effects : (c : Cell) → ((l : ℕ) → c ≡ Input l → ⊥) → ((a : Net) (l : ℕ) → c ≡ Output a l → ⊥) → false ≡ has_effects c
+unfolding has_effects
+no-effects (Input l) i o = absurd (i l refl)
+no-effects (Output a l) i o = absurd (o a l refl)
+no-effects (Buf a) i o = refl
+no-effects (Not a) i o = refl
+no-effects (And a b) i o = refl
+no-effects (Or a b) i o = refl
+no-effects (Xor a b) i o = refl
+no-effects (Mux a b c) i o = refl
+no-effects (Aig p q) i o = refl
+
 -- sources
-source-sort : (s : Sort) (r : Record) → is_source (cell_by s r) ≡ is_source_sort s
-source-sort sort.Unknown r = refl
-source-sort sort.Input r = refl
-source-sort sort.Output r = refl
-source-sort sort.Buf r = refl
-source-sort sort.Not r = refl
-source-sort sort.And r = refl
-source-sort sort.Or r = refl
-source-sort sort.Xor r = refl
-source-sort sort.Mux r = refl
-source-sort sort.Aig r = refl
+source-sort : (s : Option Sort) (r : Record) → is_source (cell_by s r) ≡ is_source_sort s
+source-sort None r = refl
+source-sort (Some sort.Input) r = refl
+source-sort (Some sort.Output) r = refl
+source-sort (Some sort.Buf) r = refl
+source-sort (Some sort.Not) r = refl
+source-sort (Some sort.And) r = refl
+source-sort (Some sort.Or) r = refl
+source-sort (Some sort.Xor) r = refl
+source-sort (Some sort.Mux) r = refl
+source-sort (Some sort.Aig) r = refl
 
 pub source-kind : (r : Record) → is_source (cell_of r) ≡ is_source_sort (sort_of r.kind)
 unfolding cell_of

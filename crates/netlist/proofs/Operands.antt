@@ -1,4 +1,5 @@
 -- Operands renamed in the fields of a record. Assumes nothing.
+use Rattle.std.specs.Prelude.{Option, Some, None, is_some}
 use mathlib.Core.Path.{◌≡◌, refl, sym, ap, ap₂, ◌∙◌}
 use mathlib.Core.Bool.{Bool, true, false, cond, not}
 use Prim.Native.Nat.{ℕ, zero, suc, ◌+◌, ◌*◌, ◌/◌, ◌%◌, ◌<◌}
@@ -10,7 +11,7 @@ use Rattle.value.specs.Value.{ZERO, net_at, from_net_invert}
 use Rattle.kinds.specs.declared.Use.{Use}
 use Rattle.kinds.specs.declared.Sort.{Sort}
 use Rattle.kinds.specs.declared.Sort.TheVariants as sort
-use Rattle.kinds.specs.Kinds.{sort_of, number_of, kind_table, kind_of, use_of, is_used, is_operand_use}
+use Rattle.kinds.specs.Kinds.{sort_of, number_of, kind_by, kind_of, use_of, is_used, is_operand_use}
 use Rattle.kinds.proofs.Laws.{number-back}
 use Rattle.cell.specs.declared.Record.{Record}
 use Rattle.cell.specs.declared.Cell.{Cell}
@@ -45,21 +46,21 @@ inverter f bit a b =
     sym (inverter-record bit a b (eqb (f % 2) 1) (eqb (f / 2 % 2) 1)
     ∙ ap₂ (λ (x y : ℕ). record_of (number_of sort.Aig) (x + y) bit a b 0) (bit_is (f % 2) (omega arith)) (twice-is (f / 2 % 2) (omega arith)))
 
-plain-as : (s : Sort) (k f bit a b c : ℕ) → ((kind_table s).known ≡ true → number_of s ≡ k)
-    → record_of (cond (kind_table s).known k (number_of sort.Buf)) (cond (not (eqb (kind_table s).flags 0)) (f % 2 + f / 2 % 2 * 2) 0) bit
-    (cond (kind_table s).known a 0) (cond (is_used (kind_table s).b) b 0) (cond (is_operand_use (kind_table s).c) c 0)
-    ≡ cell_record bit (cell_by s (record_of k f bit a b c))
+plain-as : (o : Option Sort) (k f bit a b c : ℕ) → ((s : Sort) → o ≡ Some s → number_of s ≡ k)
+    → record_of (cond (is_some o) k (number_of sort.Buf)) (cond (not (eqb (kind_by o).flags 0)) (f % 2 + f / 2 % 2 * 2) 0) bit
+    (cond (is_some o) a 0) (cond (is_used (kind_by o).b) b 0) (cond (is_operand_use (kind_by o).c) c 0)
+    ≡ cell_record bit (cell_by o (record_of k f bit a b c))
 unfolding cell_record
-plain-as sort.Unknown k f bit a b c h = refl
-plain-as sort.Input k f bit a b c h = rw (← h refl)
-plain-as sort.Output k f bit a b c h = rw (← h refl)
-plain-as sort.Buf k f bit a b c h = rw (← h refl)
-plain-as sort.Not k f bit a b c h = rw (← h refl)
-plain-as sort.And k f bit a b c h = rw (← h refl)
-plain-as sort.Or k f bit a b c h = rw (← h refl)
-plain-as sort.Xor k f bit a b c h = rw (← h refl)
-plain-as sort.Mux k f bit a b c h = rw (← h refl)
-plain-as sort.Aig k f bit a b c h = rw (← h refl) (inverter f bit a b)
+plain-as None k f bit a b c h = refl
+plain-as (Some sort.Input) k f bit a b c h = rw (← h sort.Input refl)
+plain-as (Some sort.Output) k f bit a b c h = rw (← h sort.Output refl)
+plain-as (Some sort.Buf) k f bit a b c h = rw (← h sort.Buf refl)
+plain-as (Some sort.Not) k f bit a b c h = rw (← h sort.Not refl)
+plain-as (Some sort.And) k f bit a b c h = rw (← h sort.And refl)
+plain-as (Some sort.Or) k f bit a b c h = rw (← h sort.Or refl)
+plain-as (Some sort.Xor) k f bit a b c h = rw (← h sort.Xor refl)
+plain-as (Some sort.Mux) k f bit a b c h = rw (← h sort.Mux refl)
+plain-as (Some sort.Aig) k f bit a b c h = rw (← h sort.Aig refl) (inverter f bit a b)
 
 pub plain-is : (r : Record) → plain_fields r ≡ cell_record r.bit (cell_of r)
 unfolding plain_fields cell_of kind_of
@@ -91,23 +92,23 @@ module _ (f : Net → Net) where
   control-mapped n true = refl
   control-mapped n false = refl
 
-  renamed_by : Sort → Record → Record
-  renamed_by s r =
+  renamed_by : Option Sort → Record → Record
+  renamed_by o r =
       let at : Use → ℕ → ℕ = λ u x. cond (is_operand_use u) (f (net_at (cond (is_operand_use u) x 0))).0 x in
-      record_of r.kind r.flags r.bit (at (kind_table s).a r.a) (at (kind_table s).b r.b) (at (kind_table s).c r.c)
+      record_of r.kind r.flags r.bit (at (kind_by o).a r.a) (at (kind_by o).b r.b) (at (kind_by o).c r.c)
 
-  renamed_by_lem : f ZERO ≡ ZERO → (s : Sort) (r : Record) → cell_by s (renamed_by s r) ≡ visit_mut f (cell_by s r)
+  renamed_by_lem : f ZERO ≡ ZERO → (o : Option Sort) (r : Record) → cell_by o (renamed_by o r) ≡ visit_mut f (cell_by o r)
   unfolding renamed_by visit_mut
-  renamed_by_lem z sort.Unknown r = ap Buf (sym z)
-  renamed_by_lem z sort.Input r = refl
-  renamed_by_lem z sort.Output r = refl
-  renamed_by_lem z sort.Buf r = refl
-  renamed_by_lem z sort.Not r = refl
-  renamed_by_lem z sort.And r = refl
-  renamed_by_lem z sort.Or r = refl
-  renamed_by_lem z sort.Xor r = refl
-  renamed_by_lem z sort.Mux r = refl
-  renamed_by_lem z sort.Aig r = ap₂ Aig (control-mapped (net_at r.a) (eqb (r.flags % 2) 1)) (control-mapped (net_at r.b) (eqb (r.flags / 2 % 2) 1))
+  renamed_by_lem z None r = ap Buf (sym z)
+  renamed_by_lem z (Some sort.Input) r = refl
+  renamed_by_lem z (Some sort.Output) r = refl
+  renamed_by_lem z (Some sort.Buf) r = refl
+  renamed_by_lem z (Some sort.Not) r = refl
+  renamed_by_lem z (Some sort.And) r = refl
+  renamed_by_lem z (Some sort.Or) r = refl
+  renamed_by_lem z (Some sort.Xor) r = refl
+  renamed_by_lem z (Some sort.Mux) r = refl
+  renamed_by_lem z (Some sort.Aig) r = ap₂ Aig (control-mapped (net_at r.a) (eqb (r.flags % 2) 1)) (control-mapped (net_at r.b) (eqb (r.flags / 2 % 2) 1))
 
   pub renamed-of : f ZERO ≡ ZERO → (r : Record) → cell_of (renamed_fields f r) ≡ visit_mut f (cell_of r)
   unfolding cell_of renamed_fields with_nets operand_at is_operand field_of use_of kind_of renamed_by

@@ -1,4 +1,6 @@
 // Where the areas of the work slice begin (`specs/inner/Areas.antt`; docs/MAP.md draws them). The records stand from word 0 on, four words a slot.
+// The words and the number of slots stay two parameters, with their bounds as clauses: a struct that held the `&mut` would owe in every clause
+// that it still holds the same reference, and an array in place of the slice would turn away a longer one.
 
 // Words, one a slot.
 pub const VISITED: usize = 4096;

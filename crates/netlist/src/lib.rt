@@ -8,6 +8,7 @@ ghost use Rattle.netlist.specs.Shape.{is_source, is_output, has_effects};
 ghost use Rattle.netlist.specs.inner.Areas.{word_record, store_words, records_in, Within, visited_at};
 
 use cell::{Cell, Record};
+use kinds::Sort;
 use value::Slot;
 
 pub mod area;
@@ -17,17 +18,7 @@ pub mod fields;
 pub fn has_effects(c: Cell) -> bool
     ensures { result ≡ has_effects c }
 {
-    match c {
-        Cell::Input(_) => true,
-        Cell::Output(_, _) => true,
-        Cell::Buf(_) => false,
-        Cell::Not(_) => false,
-        Cell::And(_, _) => false,
-        Cell::Or(_, _) => false,
-        Cell::Xor(_, _) => false,
-        Cell::Mux(_, _, _) => false,
-        Cell::Aig(_, _) => false,
-    }
+    matches!(c, Cell::Input(_) | Cell::Output(_, _))
 }
 
 // The record of a slot.
@@ -35,14 +26,14 @@ pub fn record_in(work: &[u32], s: Slot) -> Record
     ensures { result ≡ word_record work.now s.0 }
 {
     let i = (s.0 as usize) * 4;
-    let head = basics::word(work, i);
+    let head = basics::get_or(work, i, 0);
     Record {
         kind: (head % 256) as u8,
         flags: (head / 256 % 256) as u8,
         bit: (head / 65536) as u16,
-        a: basics::word(work, i + 1),
-        b: basics::word(work, i + 2),
-        c: basics::word(work, i + 3),
+        a: basics::get_or(work, i + 1, 0),
+        b: basics::get_or(work, i + 2, 0),
+        c: basics::get_or(work, i + 3, 0),
     }
 }
 
@@ -50,20 +41,20 @@ pub fn record_in(work: &[u32], s: Slot) -> Record
 pub fn cell_in(work: &[u32], s: Slot) -> Cell
     ensures { result ≡ cell_of (word_record work.now s.0) }
 {
-    cell::cell_of(record_in(work, s))
+    Cell::from(record_in(work, s))
 }
 
 // Whether the cell of a slot is a source.
 pub fn is_source(work: &[u32], s: Slot) -> bool
     ensures { result ≡ is_source (cell_of (word_record work.now s.0)) }
 {
-    kinds::is_source((basics::word(work, (s.0 as usize) * 4) % 256) as u8)
+    kinds::is_source((basics::get_or(work, (s.0 as usize) * 4, 0) % 256) as u8)
 }
 
 pub fn is_output(work: &[u32], s: Slot) -> bool
     ensures { result ≡ is_output (cell_of (word_record work.now s.0)) }
 {
-    basics::word(work, (s.0 as usize) * 4) % 256 == (kinds::OUTPUT as u32)
+    basics::get_or(work, (s.0 as usize) * 4, 0) % 256 == (Sort::Output as u32)
 }
 
 // Writes a record into a slot.
@@ -86,9 +77,7 @@ pub fn load(work: &mut [u32], ticket: &[u8], n: u32)
     ensures work_after { records_in n work.new ≡ records_of ticket.now }
     ensures within { Within 0 visited_at work.old work.new }
 {
-    let mut s: u32 = 0;
-    while s < n {
+    for s in 0..n {
         put_record(work, Slot(s), cell::record_at(ticket, Slot(s)));
-        s += 1;
     }
 }

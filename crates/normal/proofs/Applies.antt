@@ -5,9 +5,9 @@ use Rattle.value.specs.declared.ControlNet.{ControlNet}
 use Rattle.value.specs.declared.ControlNet.TheVariants.{Pos, Neg}
 use Rattle.value.specs.Value.{net, is_negative}
 use Rattle.cell.specs.declared.Cell.TheVariants.{Xor}
-use Rattle.normalize.specs.declared.Outcome.{Outcome}
-use Rattle.normalize.specs.declared.Outcome.TheVariants.{None, Value, Form, Add, NotOf, AddNotOf}
-use Rattle.normalize.specs.Outcomes.{◌or_else◌, given, from_control}
+use Rattle.std.specs.Prelude.{None, Some}
+use Rattle.normalize.specs.declared.Change.TheVariants.{Value, Form, Add, NotOf, AddNotOf}
+use Rattle.normalize.specs.Outcomes.{◌or_else◌, first_change, given, from_control, Outcome}
 use Rattle.aig.specs.Aig.{differ, xor_of}
 use Rattle.basics.proofs.Truth.{and_both, or-either, and-true, or_left, or_right}
 use Rattle.aig_laws.proofs.Strings.{has-or_else, has-given}
@@ -28,22 +28,14 @@ pub by : (x y : Outcome) → fires y ≡ true → x ⊴ y
 by x y e = record { applies = λ f. e }
 
 fires-left : (x y : Outcome) → fires x ≡ true → fires (x or_else y) ≡ true
-unfolding ◌or_else◌
+unfolding first_change
 fires-left None y e = absurd (false≢true e)
-fires-left (Value n) y e = refl
-fires-left (Form c) y e = refl
-fires-left (Add c) y e = refl
-fires-left (NotOf c) y e = refl
-fires-left (AddNotOf c) y e = refl
+fires-left (Some c) y e = refl
 
 fires-right : (x y : Outcome) → fires y ≡ true → fires (x or_else y) ≡ true
-unfolding ◌or_else◌
+unfolding first_change
 fires-right None y e = e
-fires-right (Value n) y e = refl
-fires-right (Form c) y e = refl
-fires-right (Add c) y e = refl
-fires-right (NotOf c) y e = refl
-fires-right (AddNotOf c) y e = refl
+fires-right (Some c) y e = refl
 
 pub into-left : {x y : Outcome} (z : Outcome) → x ⊴ y → x ⊴ y or_else z
 into-left {x} {y} z h = record { applies = λ e. fires-left y z (h.applies e) }
@@ -84,6 +76,6 @@ pub xor-of-fires : (p q : ControlNet) → fires (xor_of p q) ≡ true
 unfolding xor_of
 xor-of-fires p q = go (differ (is_negative p) (is_negative q))
   where
-    go : (b : Bool) → fires (cond b (NotOf (Xor (net p) (net q))) (Form (Xor (net p) (net q)))) ≡ true
+    go : (b : Bool) → fires (cond b (Some (NotOf (Xor (net p) (net q)))) (Some (Form (Xor (net p) (net q))))) ≡ true
     go true = refl
     go false = refl

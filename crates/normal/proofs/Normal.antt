@@ -11,11 +11,11 @@ use Rattle.cell.specs.declared.Cell.{Cell}
 use Rattle.cell.specs.declared.Cell.TheVariants.{Input, Output, Buf, Not, And, Or, Xor, Mux, Aig}
 use Rattle.netlist.specs.Shape.{is_input, has_effects}
 use Rattle.netlist.specs.Netlist.{Netlist, cell_in}
-use Rattle.design.specs.declared.Source.{Source}
-use Rattle.design.specs.Queue.{source_in}
+use Rattle.std.specs.Prelude.{None, Some}
+use Rattle.design.specs.Queue.{source_in, Source}
 use Rattle.compact.specs.Compact.{keep, is_kept}
-use Rattle.normalize.specs.declared.Outcome.{Outcome}
-use Rattle.normalize.specs.declared.Outcome.TheVariants.{None, Value, Form, Add, NotOf, AddNotOf}
+use Rattle.normalize.specs.Outcomes.{Outcome}
+use Rattle.normalize.specs.declared.Change.TheVariants.{Value, Form, Add, NotOf, AddNotOf}
 use Rattle.aig.specs.Aig.{simple_aig_opt}
 use Rattle.kept.proofs.Sound.{Sound}
 use Rattle.normal.specs.Paired.{Alike}
@@ -23,11 +23,7 @@ use Rattle.normal.specs.Paired.{Alike}
 -- a rule applies
 abbrev pub fires : Outcome → Bool
 fires None = false
-fires (Value n) = true
-fires (Form c) = true
-fires (Add c) = true
-fires (NotOf c) = true
-fires (AddNotOf c) = true
+fires (Some c) = true
 
 -- a net's cell in the netlist itself
 abbrev pub look_in : List Cell → Net → Source

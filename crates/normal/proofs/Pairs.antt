@@ -19,7 +19,7 @@ use Rattle.cell.specs.declared.Cell.{Cell}
 use Rattle.cell.specs.declared.Cell.TheVariants.{Input}
 use Rattle.netlist.specs.Shape.{visit, visit_mut, has_effects}
 use Rattle.netlist.specs.Netlist.{Netlist, cell_in}
-use Rattle.design.specs.declared.Source.TheVariants.{Opaque, Known}
+use Rattle.std.specs.Prelude.{None, Some}
 use Rattle.design.specs.Queue.{net_in, source_in}
 use Rattle.compact.specs.Compact.{keep, is_kept}
 use Rattle.basics.proofs.Members.{all-imp}
@@ -37,7 +37,7 @@ pub record FoundAt (cs : List Cell) (n : Net) (c : Cell) : Type 0 where
   pub inside : slot.0 < length cs
   pub is : cell_in cs slot.0 ≡ c
 
-pub found_at : (cs : List Cell) (n : Net) (c : Cell) → look_in cs n ≡ Known c → is_ruled c ≡ true → FoundAt cs n c
+pub found_at : (cs : List Cell) (n : Net) (c : Cell) → look_in cs n ≡ Some c → is_ruled c ≡ true → FoundAt cs n c
 found_at cs n c k r = go (driver n) refl
   where
     inner : (x : Slot) → driver n ≡ driven.Cell x → cell_in cs x.0 ≡ c → Dec (x.0 < length cs) → FoundAt cs n c
@@ -47,8 +47,8 @@ found_at cs n c k r = go (driver n) refl
         absurd (false≢true (ap is_ruled i ∙ r))
 
     go : (x : Driver) → driver n ≡ x → FoundAt cs n c
-    go (driven.Const t) e = let z : Opaque ≡ Known c = sym (ap (source_in cs) e) ∙ k in absurd (false≢true cc)
-    go (driven.Cell x) e = let z : Known (cell_in cs x.0) ≡ Known c = sym (ap (source_in cs) e) ∙ k in inner x e (cc) (dec_lt x.0 (length cs))
+    go (driven.Const t) e = let z : None ≡ Some c = sym (ap (source_in cs) e) ∙ k in absurd (false≢true cc)
+    go (driven.Cell x) e = let z : Some (cell_in cs x.0) ≡ Some c = sym (ap (source_in cs) e) ∙ k in inner x e (cc) (dec_lt x.0 (length cs))
 
 module _ (p : ℕ → ℕ) (e d : Netlist) (rank rank' : ℕ → ℕ) (pairs : PairedBy p e d) (normal : Normal d rank) (sound : Sound e rank') where
   abbrev total : ℕ

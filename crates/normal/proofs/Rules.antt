@@ -14,11 +14,9 @@ use Rattle.value.proofs.Laws.{net-test, control-test, net-cases, not_neg, not-co
 use Rattle.cell.specs.declared.Cell.{Cell}
 use Rattle.cell.specs.declared.Cell.TheVariants.{Input, Output, Buf, Not, And, Or, Xor, Mux, Aig}
 use Rattle.netlist.specs.Shape.{visit, visit_control, visit_mut}
-use Rattle.design.specs.declared.Source.{Source}
-use Rattle.design.specs.declared.Source.TheVariants.{Known}
-use Rattle.normalize.specs.declared.Outcome.{Outcome}
-use Rattle.normalize.specs.declared.Outcome.TheVariants.{None}
-use Rattle.normalize.specs.Outcomes.{given, either_way}
+use Rattle.std.specs.Prelude.{None, Some}
+use Rattle.design.specs.Queue.{Source}
+use Rattle.normalize.specs.Outcomes.{given, either_way, Outcome}
 use Rattle.aig.specs.Aig.{if_not, if_aig, if_xor, not_rule, aig_of_not, and_and, and_with, aig_of_and, nand_and, nand_nand, nand_with, aig_of_nand, xor_and, xor_with, aig_of_xor, aig_order, aig_rule, and_xor, xor_xor, xor_order, xor_rule, simple_aig_opt}
 use Rattle.basics.specs.Lists.{All}
 use Rattle.basics.proofs.Members.{all-every}
@@ -50,11 +48,11 @@ pub record Fixes (g : Net → Net) : Type 0 where
 -- the cell c was looked up there, by its new nets and up to exchange
 pub record Carried (g : Net → Net) (c : Cell) (src : Source) : Type 0 where
   pub cell : Cell
-  pub found : src ≡ Known cell
+  pub found : src ≡ Some cell
   pub alike : Alike (visit_mut g c) cell
 
 abbrev pub Leads : (Net → Net) → Source → Source → Type 0
-Leads g src src' = (c : Cell) → src ≡ Known c → is_ruled c ≡ true → Carried g c src'
+Leads g src src' = (c : Cell) → src ≡ Some c → is_ruled c ≡ true → Carried g c src'
 
 -- what look gives, look' gives for the renamed net
 pub record Follows (g : Net → Net) (look look' : Net → Source) : Type 0 where
@@ -107,22 +105,22 @@ module _ (g : Net → Net) (fixes : Fixes g) where
   always (Neg n) true = same-net n ZERO ZERO fixes.zero
 
   -- Looked-up cells
-  not-leads : (src src' : Source) → Leads g src src' → (v : Net) → src ≡ Known (Not v) → src' ≡ Known (Not (g v))
+  not-leads : (src src' : Source) → Leads g src src' → (v : Net) → src ≡ Some (Not v) → src' ≡ Some (Not (g v))
   unfolding visit_mut exchange
   not-leads src src' l v e =
       let c : Carried g (Not v) src' = l (Not v) e refl in
-      c.found ∙ sym (ap Known (⊎_elim (λ h. h) (λ h. h) c.alike))
+      c.found ∙ sym (ap Some (⊎_elim (λ h. h) (λ h. h) c.alike))
 
   -- of two operands, f being what the renaming does to each
   over : {A : Type 0} (make : A → A → Cell) (f : A → A) → ((p q : A) → is_ruled (make p q) ≡ true) → ((p q : A) → visit_mut g (make p q) ≡ make (f p) (f q))
       → ((p q : A) → exchange (make p q) ≡ make q p) → (src src' : Source) → Leads g src src' → (p q : A) → Has make src p q → Has make src' (f p) (f q)
   over {A} make f ruled renamed exchanged src src' l = both_ways
     where
-      leads : (p q : A) → src ≡ Known (make p q) → Has make src' (f p) (f q)
+      leads : (p q : A) → src ≡ Some (make p q) → Has make src' (f p) (f q)
       leads p q e =
           let c : Carried g (make p q) src' = l (make p q) e (ruled p q) in
-          ⊎_elim (λ h. as_is (c.found ∙ ap Known (sym h ∙ renamed p q)))
-          (λ h. turned (c.found ∙ ap Known (sym h ∙ ap exchange (renamed p q) ∙ exchanged (f p) (f q)))) c.alike
+          ⊎_elim (λ h. as_is (c.found ∙ ap Some (sym h ∙ renamed p q)))
+          (λ h. turned (c.found ∙ ap Some (sym h ∙ ap exchange (renamed p q) ∙ exchanged (f p) (f q)))) c.alike
 
       both_ways : (p q : A) → Has make src p q → Has make src' (f p) (f q)
       both_ways p q (as_is e) = leads p q e

@@ -2,18 +2,19 @@
 use mathlib.Core.Path.{◌≡◌, refl, sym, ap, ◌∙◌, subst}
 use mathlib.Core.Bool.{Bool, true, false, cond, ◌&&◌, false≢true}
 use mathlib.Core.List.{List}
-use Prim.Native.Nat.{ℕ, zero, suc, ◌+◌, ◌*◌, ◌/◌, ◌%◌, ◌≤◌, ◌<◌}
+use Prim.Native.Nat.{ℕ, zero, suc, ◌+◌, ◌-◌, ◌*◌, ◌/◌, ◌%◌, ◌≤◌, ◌<◌}
 use native.Mathlib.Omega.{arith}
 use native.Mathlib.Decide.{dec_lt}
 use native.Mathlib.Nat.{mod-add-div}
 use lib.Dec.{eqb}
-use lib.ListN.{length, get_or}
+use lib.ListN.{length, get_or, take, drop}
+use Rattle.std.proofs.lemmas.List.{length-take-le, length-drop, get_or-take, get_or-drop}
 use borrow.Author.Tests.{eqb-true, eq-eqb}
 use Rattle.cell.specs.declared.Record.{Record}
 use Rattle.cell.specs.Records.{cell_of}
 use Rattle.basics.specs.Lists.{tabulate}
 use Rattle.netlist.specs.inner.Areas.{word_record, mixes_at, numberer_at}
-use Rattle.numberer.specs.declared.Found.TheVariants.{Nothing}
+use Rattle.std.proofs.Common.{None}
 use Rattle.design.specs.Queue.{eq_record}
 use Rattle.numberer.specs.Numberer.{seek}
 use Rattle.numberer.specs.inner.Words.{mix_of, numberer_in, IsCell, Entered, MixedAt, Mixed, Counts}
@@ -70,49 +71,58 @@ rounded k = (k + 15) / 16 * 16
 whole : (k : ℕ) → (k + 15) % 16 + 16 * ((k + 15) / 16) ≡ k + 15
 whole k = mod-add-div (k + 15) 16
 
-pub record Counting (x : ℕ) (ws : List ℕ) (i count : ℕ) : Type 0 where
-  pub few : count ≤ i
-  pub none : count ≡ 0 → (j : ℕ) → j < i → get_or ws (mixes_at + j) 0 ≡ x → ⊥
+-- the numbers that it looks at
+abbrev pub looked_at : ℕ → List ℕ → List ℕ
+looked_at k ws = take (mixes_at + rounded k - mixes_at) (drop mixes_at ws)
 
-pub counting-none : (x : ℕ) (ws : List ℕ) → Counting x ws 0 0
-counting-none x ws = record { few = omega arith; none = λ e j l. absurd (omega arith) }
+looked-length : (k : ℕ) (ws : List ℕ) → 16384 ≤ length ws → k ≤ 1024 → length (looked_at k ws) ≡ rounded k
+looked-length k ws h l =
+    length-take-le (mixes_at + rounded k - mixes_at) (drop mixes_at ws) (omega (arith, whole k, length-drop mixes_at ws)) ∙ (omega arith)
+
+pub record Counting (x : ℕ) (xs : List ℕ) (i count : ℕ) : Type 0 where
+  pub few : count ≤ i
+  pub none : count ≡ 0 → (j : ℕ) → j < i → get_or xs j 0 ≡ x → ⊥
+
+pub counting-none : (x : ℕ) (xs : List ℕ) → Counting x xs 0 0
+counting-none x xs = record { few = omega arith; none = λ e j l. absurd (omega arith) }
 
 at_most_one : (b : Bool) → cond b 1 0 ≤ 1
 at_most_one true = omega arith
 at_most_one false = omega arith
 
-pub counting-inside : (ws : List ℕ) → 16384 ≤ length ws → (k i : ℕ) → k ≤ 1024 → i < rounded k → mixes_at + i < length ws
-counting-inside ws h k i l m = omega (arith, whole k)
-
-module _ (x : ℕ) (ws : List ℕ) (i count : ℕ) (g : Counting x ws i count) where
-  pub counting-fits : (k : ℕ) → k ≤ 1024 → i < rounded k → (b : Bool) → (n : ℕ) → n ≡ cond b 1 0 → count + n < 4294967296
-  counting-fits k h l b n e = let u : count ≤ i = g.few in omega (arith, at_most_one b, whole k)
-
-  pub counting_more : (n : ℕ) → n ≡ cond (eqb (get_or ws (mixes_at + i) 0) x) 1 0 → Counting x ws (i + 1) (count + n)
+module _ (x : ℕ) (xs : List ℕ) (i count : ℕ) (g : Counting x xs i count) where
+  pub counting_more : (n : ℕ) → n ≡ cond (eqb (get_or xs i 0) x) 1 0 → Counting x xs (i + 1) (count + n)
   counting_more n e = record {
-    few = let u : count ≤ i = g.few in omega (arith, at_most_one (eqb (get_or ws (mixes_at + i) 0) x));
+    few = let u : count ≤ i = g.few in omega (arith, at_most_one (eqb (get_or xs i 0) x));
     none = λ z j m. go z j m (dec_lt j i);
   }
     where
-      here : n ≡ 0 → get_or ws (mixes_at + i) 0 ≡ x → ⊥
+      here : n ≡ 0 → get_or xs i 0 ≡ x → ⊥
       here z q =
-          let one : n ≡ 1 = e ∙ ap (λ (b : Bool). cond b 1 0) (eq-eqb (get_or ws (mixes_at + i) 0) x q) in
+          let one : n ≡ 1 = e ∙ ap (λ (b : Bool). cond b 1 0) (eq-eqb (get_or xs i 0) x q) in
           absurd (omega arith)
 
-      go : count + n ≡ 0 → (j : ℕ) → j < i + 1 → Dec (j < i) → get_or ws (mixes_at + j) 0 ≡ x → ⊥
+      go : count + n ≡ 0 → (j : ℕ) → j < i + 1 → Dec (j < i) → get_or xs j 0 ≡ x → ⊥
       go z j m (yes l) = g.none (omega arith) j l
-      go z j m (no l) = let q : i ≡ j = omega arith in subst (λ (v : ℕ). get_or ws (mixes_at + v) 0 ≡ x → ⊥) q (here (omega arith))
+      go z j m (no l) = let q : i ≡ j = omega arith in subst (λ (v : ℕ). get_or xs v 0 ≡ x → ⊥) q (here (omega arith))
 
-  pub counting-all : (k : ℕ) → rounded k ≤ i → Counts k x ws count
-  counting-all k h = record { none = λ z j l. g.none z j (omega (arith, whole k)) }
+module _ (x k : ℕ) (ws : List ℕ) (i count : ℕ) (g : Counting x (looked_at k ws) i count) (h : 16384 ≤ length ws) (l : k ≤ 1024) where
+  pub counting-fits : i < length (looked_at k ws) → (b : Bool) (n : ℕ) → n ≡ cond b 1 0 → count + n < 4294967296
+  counting-fits m b n e = let u : count ≤ i = g.few in omega (arith, at_most_one b, whole k, looked-length k ws h l)
 
-none : (ws : List ℕ) (key : Record) → seek (numberer_in 0 ws) (cell_of key) ≡ Nothing
+  pub counting-all : length (looked_at k ws) ≤ i → Counts k x ws count
+  counting-all m = record {
+    none = λ z j d q. g.none z j (omega (arith, whole k, looked-length k ws h l))
+        (get_or-take (mixes_at + rounded k - mixes_at) (drop mixes_at ws) j 0 (omega (arith, whole k)) ∙ get_or-drop mixes_at ws j 0 ∙ q);
+  }
+
+none : (ws : List ℕ) (key : Record) → seek (numberer_in 0 ws) (cell_of key) ≡ None
 unfolding numberer_in tabulate seek
 none ws key = refl
 
 -- a key whose number none of the entries has
 missing : (k : ℕ) (ws : List ℕ) (key : Record) → Entered k ws → Mixed k ws → IsCell key → (n : ℕ) → n ≤ k → ((i : ℕ) → i < k → get_or ws (mixes_at + i) 0 ≡ mix_of key → ⊥)
-    → seek (numberer_in n ws) (cell_of key) ≡ Nothing
+    → seek (numberer_in n ws) (cell_of key) ≡ None
 missing k ws key en m z zero l h = none ws key
 missing k ws key en m z (suc n) l h =
     one_of ws (cell_of key) n (missing k ws key en m z n (omega arith) h)
@@ -120,5 +130,5 @@ missing k ws key en m z (suc n) l h =
     ∙ other-mixes (word_record ws (numberer_at + n)) key (λ q. h n (omega arith) (m.each n (omega arith) ∙ q)))
 
 pub none-there : (k : ℕ) (ws : List ℕ) (key : Record) → Entered k ws → Mixed k ws → IsCell key → (x : ℕ) → x ≡ mix_of key → (r : ℕ) → Counts k x ws r → r ≡ 0
-    → Nothing ≡ seek (numberer_in k ws) (cell_of key)
+    → None ≡ seek (numberer_in k ws) (cell_of key)
 none-there k ws key en m z x e r c zero-r = sym (missing k ws key en m z k (omega arith) (λ i l q. c.none zero-r i l (q ∙ sym e)))

@@ -1,13 +1,11 @@
 -- The search for a key among the numberer's entries. Assumes nothing.
 use mathlib.Core.Path.{◌≡◌, refl, sym, ap, ◌∙◌, subst}
-use mathlib.Core.Bool.{Bool, true, false, cond, ◌&&◌}
+use mathlib.Core.Bool.{Bool, true, false, cond}
 use mathlib.Core.List.{List, [], ◌∷◌, ◌++◌}
 use Prim.Native.Nat.{ℕ, zero, suc, ◌+◌, ◌≤◌, ◌<◌}
 use native.Mathlib.Omega.{arith}
 use native.Mathlib.Numerals.{add-one}
 use native.Mathlib.Decide.{dec_lt}
-use lib.Dec.{eqb}
-use borrow.Author.Tests.{eq-eqb, ne_eqb}
 use Rattle.value.specs.declared.Net.{Net}
 use Rattle.value.specs.Value.{net_of, slot_at}
 use Rattle.cell.specs.declared.Record.{Record}
@@ -15,50 +13,29 @@ use Rattle.cell.specs.declared.Cell.{Cell}
 use Rattle.cell.specs.Records.{cell_of}
 use Rattle.basics.specs.Lists.{tabulate}
 use Rattle.netlist.specs.inner.Areas.{word_record, numberer_at}
-use Rattle.numberer.specs.declared.Found.TheVariants.{Nothing, At}
+use Rattle.std.proofs.Common.{Some, None}
 use Rattle.numberer.specs.Numberer.{Entry, seek}
 use Rattle.design.specs.Queue.{net_in, eq_record, eq_cell}
 use Rattle.numberer.specs.inner.Words.{entry_of, numberer_in, IsCell, Entered}
 use Rattle.numberer.proofs.Records.{eq-cells}
 
--- the fields in the order that the code compares them in
-module _ (x y : Record) where
-  pub differ : (x.a ≡ y.a → ⊥) → false ≡ eq_record x y
-  unfolding eq_record
-  differ h = rw (ne_eqb x.a y.a h) (go (eqb x.kind y.kind) (eqb x.flags y.flags))
-    where
-      go : (p q : Bool) → false ≡ (p && q && false && eqb x.b y.b && eqb x.c y.c)
-      go true true = refl
-      go true false = refl
-      go false q = refl
-
-  pub agree : x.a ≡ y.a → (p q r : Bool) → p ≡ (eqb x.kind y.kind && eqb x.flags y.flags) → q ≡ (p && eqb x.b y.b)
-      → r ≡ (q && eqb x.c y.c) → r ≡ eq_record x y
-  unfolding eq_record
-  agree e p q r ep eq er = rw (er, eq, ep, eq-eqb x.a y.a e) (go (eqb x.kind y.kind) (eqb x.flags y.flags))
-    where
-      go : (p q : Bool) → (p && q && eqb x.b y.b && eqb x.c y.c) ≡ (p && q && true && eqb x.b y.b && eqb x.c y.c)
-      go true true = refl
-      go true false = refl
-      go false q = refl
-
 -- a key among entries, and among more of them
-seek-front : (xs ys : List Entry) (c : Cell) (x : Net) → seek xs c ≡ At x → seek (xs ++ ys) c ≡ At x
+seek-front : (xs ys : List Entry) (c : Cell) (x : Net) → seek xs c ≡ Some x → seek (xs ++ ys) c ≡ Some x
 unfolding seek
 seek-front [] ys c x e = cc
 seek-front (d ∷ xs) ys c x e = go (eq_cell d.0 c) e (seek-front xs ys c x)
   where
-    go : (b : Bool) → cond b (At d.1) (seek xs c) ≡ At x → (seek xs c ≡ At x → seek (xs ++ ys) c ≡ At x) → cond b (At d.1) (seek (xs ++ ys) c) ≡ At x
+    go : (b : Bool) → cond b (Some d.1) (seek xs c) ≡ Some x → (seek xs c ≡ Some x → seek (xs ++ ys) c ≡ Some x) → cond b (Some d.1) (seek (xs ++ ys) c) ≡ Some x
     go true p h = p
     go false p h = h p
 
-seek-past : (xs ys : List Entry) (c : Cell) → seek xs c ≡ Nothing → seek (xs ++ ys) c ≡ seek ys c
+seek-past : (xs ys : List Entry) (c : Cell) → seek xs c ≡ None → seek (xs ++ ys) c ≡ seek ys c
 unfolding seek
 seek-past [] ys c e = refl
 seek-past (d ∷ xs) ys c e = go (eq_cell d.0 c) e (seek-past xs ys c)
   where
-    go : (b : Bool) → cond b (At d.1) (seek xs c) ≡ Nothing → (seek xs c ≡ Nothing → seek (xs ++ ys) c ≡ seek ys c)
-        → cond b (At d.1) (seek (xs ++ ys) c) ≡ seek ys c
+    go : (b : Bool) → cond b (Some d.1) (seek xs c) ≡ None → (seek xs c ≡ None → seek (xs ++ ys) c ≡ seek ys c)
+        → cond b (Some d.1) (seek (xs ++ ys) c) ≡ seek ys c
     go true p h = cc
     go false p h = h p
 
@@ -66,42 +43,42 @@ module _ (ws : List ℕ) (c : Cell) where
   abbrev entry : ℕ → Entry
   entry i = entry_of (word_record ws (numberer_at + i))
 
-  pub one_of : (i : ℕ) → seek (numberer_in i ws) c ≡ Nothing → seek (numberer_in (suc i) ws) c ≡ cond (eq_cell (entry i).0 c) (At (entry i).1) Nothing
+  pub one_of : (i : ℕ) → seek (numberer_in i ws) c ≡ None → seek (numberer_in (suc i) ws) c ≡ cond (eq_cell (entry i).0 c) (Some (entry i).1) None
   unfolding numberer_in tabulate seek
   one_of i e = seek-past (numberer_in i ws) (entry i ∷ []) c e
 
-  at_first : (k i : ℕ) → i < k → seek (numberer_in i ws) c ≡ Nothing → eq_cell (entry i).0 c ≡ true → seek (numberer_in k ws) c ≡ At (entry i).1
+  at_first : (k i : ℕ) → i < k → seek (numberer_in i ws) c ≡ None → eq_cell (entry i).0 c ≡ true → seek (numberer_in k ws) c ≡ Some (entry i).1
   unfolding numberer_in tabulate
   at_first zero i l e t = absurd (omega arith)
   at_first (suc k) i l e t = go (at_first k i) (dec_lt i k)
     where
-      go : (i < k → seek (numberer_in i ws) c ≡ Nothing → eq_cell (entry i).0 c ≡ true → seek (numberer_in k ws) c ≡ At (entry i).1)
-          → Dec (i < k) → seek (numberer_in (suc k) ws) c ≡ At (entry i).1
+      go : (i < k → seek (numberer_in i ws) c ≡ None → eq_cell (entry i).0 c ≡ true → seek (numberer_in k ws) c ≡ Some (entry i).1)
+          → Dec (i < k) → seek (numberer_in (suc k) ws) c ≡ Some (entry i).1
       go h (yes m) = seek-front (numberer_in k ws) (entry k ∷ []) c (entry i).1 (h m e t)
       go h (no m) =
           let q : i ≡ k = omega arith in
-          subst (λ (j : ℕ). seek (numberer_in (suc j) ws) c ≡ At (entry i).1) q (one_of i e ∙ rw t)
+          subst (λ (j : ℕ). seek (numberer_in (suc j) ws) c ≡ Some (entry i).1) q (one_of i e ∙ rw t)
 
 -- the loop of `find`
 pub record Seeking (k : ℕ) (ws : List ℕ) (key : Record) (i : ℕ) : Type 0 where
   pub upto : i ≤ k
-  pub missed : seek (numberer_in i ws) (cell_of key) ≡ Nothing
+  pub missed : seek (numberer_in i ws) (cell_of key) ≡ None
 
 pub seeking-none : (k : ℕ) (ws : List ℕ) (key : Record) → Seeking k ws key 0
 unfolding numberer_in tabulate seek
 seeking-none k ws key = record { upto = omega arith; missed = refl }
 
 module _ (k : ℕ) (ws : List ℕ) (key : Record) (i : ℕ) (g : Seeking k ws key i) where
-  pub seeking-end : k ≤ i → Nothing ≡ seek (numberer_in k ws) (cell_of key)
-  seeking-end h = let q : i ≡ k = let u : i ≤ k = g.upto in omega arith in sym (subst (λ (j : ℕ). seek (numberer_in j ws) (cell_of key) ≡ Nothing) q g.missed)
+  pub seeking-end : k ≤ i → None ≡ seek (numberer_in k ws) (cell_of key)
+  seeking-end h = let q : i ≡ k = let u : i ≤ k = g.upto in omega arith in sym (subst (λ (j : ℕ). seek (numberer_in j ws) (cell_of key) ≡ None) q g.missed)
 
   module _ (l : i < k) (en : Entered k ws) (z : IsCell key) (b : Bool) (b-is : b ≡ eq_record (word_record ws (numberer_at + i)) key) where
     tested : b ≡ eq_cell (cell_of (word_record ws (numberer_at + i))) (cell_of key)
     tested = b-is ∙ eq-cells (word_record ws (numberer_at + i)) key (en.each i l) z
 
-    pub seeking-found : b ≡ true → (r : Record) → r ≡ word_record ws (numberer_at + i) → (x : Net) → x ≡ net_of (slot_at r.bit) → At x ≡ seek (numberer_in k ws) (cell_of key)
+    pub seeking-found : b ≡ true → (r : Record) → r ≡ word_record ws (numberer_at + i) → (x : Net) → x ≡ net_of (slot_at r.bit) → Some x ≡ seek (numberer_in k ws) (cell_of key)
     seeking-found t r r-is x e =
-        ap At (e ∙ ap (λ (y : Record). net_in y.bit) r-is) ∙ sym (at_first ws (cell_of key) k i l g.missed (sym tested ∙ t))
+        ap Some (e ∙ ap (λ (y : Record). net_in y.bit) r-is) ∙ sym (at_first ws (cell_of key) k i l g.missed (sym tested ∙ t))
 
     pub seeking-more : b ≡ false → Seeking k ws key (i + 1)
     seeking-more t = record {

@@ -13,23 +13,6 @@ use cell::Record;
 use netlist::area;
 use value::{Net, Slot};
 
-// What a search for a cell gives: the net that holds it.
-#[derive(Clone, Copy)]
-pub enum Found {
-    Nothing,
-    At(Net),
-}
-
-fn same_key(x: Record, y: Record) -> bool
-    ensures { result ≡ eq_record x y }
-{
-    if x.a == y.a {
-        let heads = basics::both(x.kind == y.kind, x.flags == y.flags);
-        return basics::both(basics::both(heads, x.b == y.b), x.c == y.c);
-    }
-    false
-}
-
 // A number that equal keys have in common. One comparison of it tells most keys apart.
 fn mix(r: Record) -> u32
     ensures { result ≡ mix_of r }
@@ -46,11 +29,9 @@ fn count_mix(work: &[u32], k: u32, x: u32) -> u32
     ensures { Counts k x work.now result }
 {
     let end = (k as usize + 15) / 16 * 16;
-    let mut i: usize = 0;
     let mut count: u32 = 0;
-    while i < end {
-        count += basics::pick32(work[area::MIXES + i] == x, 1, 0);
-        i += 1;
+    for m in work[area::MIXES..area::MIXES + end].iter() {
+        count += basics::pick(*m == x, 1, 0);
     }
     count
 }
@@ -62,14 +43,14 @@ fn same_at(work: &[u32], i: u32, key: Record, x: u32) -> bool
     requires x_value { x ≡ mix_of key }
     ensures { result ≡ eq_record (word_record work.now (numberer_at + i)) key }
 {
-    if basics::word(work, area::MIXES + (i as usize)) == x {
-        return same_key(netlist::record_in(work, Slot(area::NUMBERER + i)), key);
+    if basics::get_or(work, area::MIXES + (i as usize), 0) == x {
+        return design::queue::record_eq(netlist::record_in(work, Slot(area::NUMBERER + i)), key);
     }
     false
 }
 
 // Looks for a key, whose mix is x, from the first entry on.
-fn find_first(work: &[u32], k: u32, key: Record, x: u32) -> Found
+fn find_first(work: &[u32], k: u32, key: Record, x: u32) -> Option<Net>
     requires k_bound { k ≤ 1024 }
     requires entered { Entered k work.now }
     requires mixed { Mixed k work.now }
@@ -77,19 +58,17 @@ fn find_first(work: &[u32], k: u32, key: Record, x: u32) -> Found
     requires x_value { x ≡ mix_of key }
     ensures { result ≡ seek (numberer_in k work.now) (cell_of key) }
 {
-    let mut i: u32 = 0;
-    while i < k {
+    for i in 0..k {
         if same_at(work, i, key, x) {
             let r = netlist::record_in(work, Slot(area::NUMBERER + i));
-            return Found::At(Net::from_cell_index(Slot(r.bit as u32)));
+            return Some(Net::from_cell_index(Slot(r.bit as u32)));
         }
-        i += 1;
     }
-    Found::Nothing
+    None
 }
 
 // Looks for a key. A few entries are looked at one by one; of many it is asked first whether any has the mix.
-pub fn find(work: &[u32], k: u32, key: Record) -> Found
+pub fn find(work: &[u32], k: u32, key: Record) -> Option<Net>
     requires in_bounds { 16384 ≤ length work.now }
     requires k_bound { k ≤ 1024 }
     requires entered { Entered k work.now }
@@ -100,7 +79,7 @@ pub fn find(work: &[u32], k: u32, key: Record) -> Found
     let x = mix(key);
     if 16 < k {
         if count_mix(work, k, x) == 0 {
-            return Found::Nothing;
+            return None;
         }
     }
     find_first(work, k, key, x)

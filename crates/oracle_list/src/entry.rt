@@ -1,5 +1,5 @@
 // The entries of the list's files. Numbers are little-endian.
-ghost use Rattle.std.specs.Prelude.{◌<◌};
+ghost use Rattle.std.specs.Prelude.{◌≡◌, ◌+◌, ◌*◌, slice_index};
 
 // The lengths of the slices that calls get.
 #[derive(Clone, Copy)]
@@ -11,24 +11,18 @@ pub struct Slices {
     pub level_reply: usize,
 }
 
-// A number of 16 bits.
-pub fn half(low: u8, high: u8) -> u32
-    ensures { result < 65536 }
-{
-    low as u32 + high as u32 * 256
-}
+impl From<[u8; 6]> for Slices {
+    ghost from_gives = { λ x r.
+        (r.work ≡ slice_index x 0 + slice_index x 1 * 256)
+        × (r.reply ≡ slice_index x 2 + slice_index x 3 * 256)
+        × (r.level_reply ≡ slice_index x 4 + slice_index x 5 * 256) };
 
-pub fn word(low: u32, high: u32) -> u32
-    requires low_bound { low < 65536 }
-    requires high_bound { high < 65536 }
-{
-    low + high * 65536
-}
-
-pub fn slices_of(x: &[u8; 6]) -> Slices {
-    Slices {
-        work: half(x[0], x[1]) as usize,
-        reply: half(x[2], x[3]) as usize,
-        level_reply: half(x[4], x[5]) as usize,
+    fn from(entry: [u8; 6]) -> Slices {
+        let [w0, w1, r0, r1, l0, l1] = entry;
+        Slices {
+            work: u16::from_le_bytes([w0, w1]).into(),
+            reply: u16::from_le_bytes([r0, r1]).into(),
+            level_reply: u16::from_le_bytes([l0, l1]).into(),
+        }
     }
 }

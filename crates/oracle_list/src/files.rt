@@ -2,9 +2,9 @@
 ghost use Rattle.std.specs.Prelude.{◌<◌, ◌≤◌, length, take, IfOk};
 ghost use Rattle.std.specs.Io.KnownBytes.{Consumes, IsAtEnd};
 
-use crate::entry;
 use std::io::{ErrorKind, Read};
 use std::{fs, io, rt};
+use thiserror::Error;
 
 #[derive(Drop)]
 pub struct Files<F> {
@@ -15,15 +15,17 @@ pub struct Files<F> {
     pub expected: F,
 }
 
-#[derive(Clone, Copy)]
-pub enum Next {
-    // The number of bytes.
-    Read(usize),
-    End,
+// Why an entry was not read.
+#[derive(Clone, Copy, Debug, Error)]
+pub enum ListError {
+    #[error("{0}")]
+    Io(#[from] io::Error),
     // The file ends within an entry, or there is too little room for one.
+    #[error("the files do not go together")]
     Torn,
 }
 
+// The name as bytes: a `&str` would be a narrower parameter.
 pub fn open<R: rt::Files>(rt: &R, expected: &[u8]) -> io::Result<Files<R::File>> {
     let Ok(name) = str::from_utf8(expected) else {
         return Err(io::Error::new(ErrorKind::InvalidInput, "a file's name is no text"));
@@ -42,7 +44,7 @@ pub fn close<F: Drop>(files: Files<F>) {
 }
 
 // Reads until the buffer is full or the file ends, and answers how many bytes it put at the
-// buffer's start.
+// buffer's start. No `for` counts its steps: each is as long as the read gives.
 pub fn read_full<R: Read>(file: &mut R, buffer: &mut [u8]) -> io::Result<usize>
     ensures bound { IfOk result (λ n. n ≤ length buffer.new) }
     ensures bytes { IfOk result (λ n. Consumes (R.remaining file.old) (R.remaining file.new) (take n buffer.new)) }
@@ -59,38 +61,43 @@ pub fn read_full<R: Read>(file: &mut R, buffer: &mut [u8]) -> io::Result<usize>
     Ok(done)
 }
 
-// Reads so many bytes to the start of a buffer.
-fn read(file: &mut impl Read, buffer: &mut [u8], n: usize) -> io::Result<Next> {
-    if buffer.len() < n {
-        return Ok(Next::Torn);
+// Reads an entry, of so many bytes.
+pub fn read_entry<const N: usize, R: Read>(file: &mut R) -> Result<[u8; N], ListError>
+    ensures { IfOk result (λ entry. Consumes (R.remaining file.old) (R.remaining file.new) entry) }
+{
+    let mut entry = [0; N];
+    if read_full(file, &mut entry)? < N {
+        return Err(ListError::Torn);
     }
-    if read_full(file, &mut buffer[..n])? < n {
-        return Ok(Next::Torn);
-    }
-    Ok(Next::Read(n))
+    Ok(entry)
 }
 
-// Reads the next ticket to the start of a buffer.
-pub fn next_ticket(file: &mut impl Read, ticket: &mut [u8]) -> io::Result<Next> {
-    let mut x = [0; 4];
-    let got = read_full(file, &mut x)?;
-    if got == 0 {
-        return Ok(Next::End);
+// Reads so many bytes to the start of a buffer.
+fn read<'b>(file: &mut impl Read, buffer: &'b mut [u8], n: usize) -> Result<&'b [u8], ListError> {
+    let bytes = buffer.get_mut(..n).ok_or(ListError::Torn)?;
+    if read_full(file, bytes)? < n {
+        return Err(ListError::Torn);
     }
-    if got < 4 {
-        return Ok(Next::Torn);
+    Ok(bytes)
+}
+
+// Reads the next ticket to the start of a buffer. There is none where the file ends.
+pub fn next_ticket<'b>(
+    file: &mut impl Read,
+    buffer: &'b mut [u8],
+) -> Result<Option<&'b [u8]>, ListError> {
+    let mut length = [0; 4];
+    match read_full(file, &mut length)? {
+        0 => Ok(None),
+        4 => Ok(Some(read(file, buffer, u32::from_le_bytes(length) as usize)?)),
+        _ => Err(ListError::Torn),
     }
-    let n = entry::word(entry::half(x[0], x[1]), entry::half(x[2], x[3]));
-    read(file, ticket, n as usize)
 }
 
 // Reads the next assignment to the start of a buffer.
-pub fn next_levels(file: &mut impl Read, levels: &mut [u8]) -> io::Result<Next> {
-    let mut x = [0; 2];
-    if read_full(file, &mut x)? < 2 {
-        return Ok(Next::Torn);
-    }
-    read(file, levels, entry::half(x[0], x[1]) as usize)
+pub fn next_levels<'b>(file: &mut impl Read, buffer: &'b mut [u8]) -> Result<&'b [u8], ListError> {
+    let length = read_entry(file)?;
+    read(file, buffer, u16::from_le_bytes(length).into())
 }
 
 // Whether nothing is left to read.

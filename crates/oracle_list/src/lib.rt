@@ -4,5 +4,7 @@
 mod entry;
 mod files;
 
-pub use entry::{Slices, half, slices_of, word};
-pub use files::{Files, Next, close, is_at_end, next_levels, next_ticket, open, read_full};
+pub use entry::Slices;
+pub use files::{
+    Files, ListError, close, is_at_end, next_levels, next_ticket, open, read_entry, read_full,
+};

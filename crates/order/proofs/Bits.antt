@@ -171,7 +171,6 @@ sorted n count ws ws₀ e = rw (topo_sort, cells-length n ws₀) (ap (λ (w : Wa
 
 -- the bits below s were walked to
 pub record Sorting (n : ℕ) (ws₁ ws : List ℕ) (count s : ℕ) : Type 0 where
-  pub upto : s ≤ n
   pub begun : Ready n 0 ws₁
   pub ready : Ready n count ws
   pub walked : Walks bits_by (slots s) n 0 ws₁ ws count
@@ -180,7 +179,6 @@ pub record Sorting (n : ℕ) (ws₁ ws : List ℕ) (count s : ℕ) : Type 0 wher
 pub sorting-begins : (n : ℕ) (ws ws₁ : List ℕ) → Clears n ws ws₁ → 16384 ≤ length ws → n ≤ 1024 → Sorting n ws₁ ws₁ 0 0
 unfolding tabulate
 sorting-begins n ws ws₁ v l f = record {
-  upto = omega arith;
   begun = cleared-ready n ws ws₁ v l f;
   ready = cleared-ready n ws ws₁ v l f;
   walked = walks-none bits_by n 0 ws₁;
@@ -191,7 +189,6 @@ module _ (n : ℕ) (ws₁ ws : List ℕ) (count s : ℕ) (g : Sorting n ws₁ ws
   pub sorting-more : s < n → (ws' : List ℕ) (r : ℕ) → Walks bits_by (s ∷ []) n count ws ws' r → Sorting n ws₁ ws' r (s + 1)
   unfolding tabulate
   sorting-more l ws' r v = record {
-    upto = omega arith;
     begun = g.begun;
     ready = walks-ready bits_by n (s ∷ []) count ws ws' r v g.ready;
     walked = rw (add-one s) (walks-then bits_by n (slots s) 0 ws₁ ws count g.walked g.begun (s ∷ []) ws' r v);
@@ -199,9 +196,9 @@ module _ (n : ℕ) (ws₁ ws : List ℕ) (count s : ℕ) (g : Sorting n ws₁ ws
         (walks-there bits_by n count ws ws' r s v);
   }
 
-  pub sorting-ends : n ≤ s → (ws₀ : List ℕ) → Clears n ws₀ ws₁ → Sorts n ws₀ ws count
-  sorting-ends l ws₀ v =
-      let q : s ≡ n = omega (arith, g.upto) in
+  pub sorting-ends : s ≤ n → n ≤ s → (ws₀ : List ℕ) → Clears n ws₀ ws₁ → Sorts n ws₀ ws count
+  sorting-ends m l ws₀ v =
+      let q : s ≡ n = omega arith in
       let few : n ≤ 1024 = g.ready.few in
       let w : Walks bits_by (slots n) n 0 ws₁ ws count = subst (λ (k : ℕ). Walks bits_by (slots k) n 0 ws₁ ws count) q g.walked in
       record {

@@ -1,5 +1,5 @@
 -- The walk in the words of the work slice: an item marked, and an item put into the order. Assumes nothing.
-use mathlib.Core.Path.{◌≡◌, refl, sym, ap, ◌∙◌, subst}
+use mathlib.Core.Path.{◌≡◌, refl, sym, ap, ◌∙◌}
 use mathlib.Core.Bool.{Bool, true, false, not}
 use mathlib.Core.List.{List, [], ◌∷◌, ◌++◌}
 use mathlib.Core.Logic.{inl, inr}
@@ -7,14 +7,16 @@ use Prim.Native.Nat.{ℕ, ◌+◌, ◌≤◌, ◌<◌}
 use native.Mathlib.Omega.{arith}
 use native.Mathlib.Numerals.{add-one}
 use lib.Dec.{eqb}
-use lib.ListN.{length, get_or, set, replicate, length-set, length-replicate, get_or-replicate, get_or-eq_default}
+use lib.ListN.{length, get_or, set, replicate, take, drop, length-take, length-drop, length-set, length-replicate, get_or-replicate, get_or-eq_default}
 use lib.Seq.{get_or-set_same, get_or-set_other, ext_get_or}
-use borrow.Author.Count.{below_more}
+use borrow.Author.Rules.{rules}
+use borrow.Rule.Slice.PartMut.{put_mid}
+use Rattle.std.proofs.lemmas.List.{places}
 use borrow.Author.Tests.{eqb-true, eqb-false}
 use Rattle.basics.specs.Lists.{tabulate}
 use Rattle.basics.proofs.Tables.{tabulate-length, tabulate-at}
 use Rattle.netlist.specs.inner.Areas.{words_in, marks_in, Within, visited_at, order_at, replaced_at}
-use Rattle.netlist.proofs.Frames.{within_none, within-then, within-set, words-kept, marks-kept, tabulate-same}
+use Rattle.netlist.proofs.Frames.{within-set, words-kept, marks-kept, tabulate-same}
 use Rattle.order.specs.Walk.{mark, push}
 use Rattle.order.specs.inner.Code.{walk_of, visited_in, Clears}
 use Rattle.order.proofs.Walks.{inside}
@@ -94,32 +96,39 @@ module _ (n : ℕ) (ws : List ℕ) (count s : ℕ) (few : n ≤ 1024) (long : 16
   unfolding walk_of
   walk-pushed = rw (words-push, marks-kept order_at replaced_at ws (set ws (order_at + count) s) order-frame visited_at n (inl (omega arith)))
 
--- the marks of the first i items are off
-pub record Clearing (n : ℕ) (ws ws' : List ℕ) (i : ℕ) : Type 0 where
-  pub upto : i ≤ n
-  pub few : n ≤ 1024
-  pub blank : (u : ℕ) → u < i → get_or ws' (visited_at + u) 0 ≡ 0
-  pub frame : Within visited_at order_at ws ws'
+-- words with a part written over
+module _ (a k : ℕ) (ws ys : List ℕ) (inside : a ≤ length ws) (enough : a + k ≤ length ws) (same : length ys ≡ k) where
+  mid-length : length (put_mid a k ws ys) ≡ length ws
+  mid-length = search (rules, places)
 
-pub clearing-none : (n : ℕ) (ws : List ℕ) → n ≤ 1024 → Clearing n ws ws 0
-clearing-none n ws h = record { upto = omega arith; few = h; blank = λ u l. absurd (omega arith); frame = within_none visited_at order_at ws }
+  mid-before : (i : ℕ) → i < a → get_or (put_mid a k ws ys) i 0 ≡ get_or ws i 0
+  mid-before i l = search (rules, places)
 
-module _ (n : ℕ) (ws ws' : List ℕ) (i : ℕ) (g : Clearing n ws ws' i) where
-  pub clearing-more : 16384 ≤ length ws → i < n → (ws'' : List ℕ) → ws'' ≡ set ws' (visited_at + i) 0 → Clearing n ws ws'' (i + 1)
-  clearing-more h l ws'' e = subst (λ (vs : List ℕ). Clearing n ws vs (i + 1)) (sym e) (record {
-    upto = omega arith;
-    few = g.few;
-    blank = below_more (λ u. get_or (set ws' (visited_at + i) 0) (visited_at + u) 0 ≡ 0) i
-        (λ u k. get_or-set_other ws' (visited_at + i) (visited_at + u) 0 0 (λ q. absurd (omega arith)) ∙ g.blank u k)
-        (get_or-set_same ws' (visited_at + i) 0 0 (omega (arith, g.few, g.frame.same)));
-    frame = within-then visited_at order_at ws ws' (set ws' (visited_at + i) 0) g.frame
-        (within-set visited_at order_at ws' (visited_at + i) 0 (omega arith) (omega (arith, g.few)));
-  })
+  mid-at : (i : ℕ) → i < k → get_or (put_mid a k ws ys) (a + i) 0 ≡ get_or ys i 0
+  mid-at i l = search (rules, places)
 
-  pub clearing-all : n ≤ i → Clears n ws ws'
-  unfolding marks_in
-  clearing-all l = record {
-    blank = tabulate-same (λ u. not (eqb (get_or ws' (visited_at + u) 0) 0)) (λ u. false) n (λ u k. ap (λ (x : ℕ). not (eqb x 0)) (g.blank u (omega arith)))
-        ∙ tabulate-replicate n false;
-    frame = g.frame;
-  }
+  mid-after : (i : ℕ) → a + k ≤ i → get_or (put_mid a k ws ys) i 0 ≡ get_or ws i 0
+  mid-after i l = search (rules, places)
+
+  mid-within : (to : ℕ) → a + k ≤ to → Within a to ws (put_mid a k ws ys)
+  mid-within to l = record { before = mid-before; after = λ i h. mid-after i (omega arith); same = mid-length }
+
+-- the words of the first n items, filled with 0
+filled : (k : ℕ) (ws ys : List ℕ) → visited_at + k ≤ length ws → ys ≡ replicate (length (take k (drop visited_at ws))) 0 → ys ≡ replicate k 0
+filled k ws ys much z = z ∙ ap (λ (m : ℕ). replicate m 0) (simp (length-take, length-drop) (omega arith))
+
+pub filled-clears : (n k : ℕ) (ws ys : List ℕ) → 16384 ≤ length ws → n ≤ 1024 → k ≡ n → ys ≡ replicate (length (take k (drop visited_at ws))) 0
+    → Clears n ws (put_mid visited_at k ws ys)
+unfolding marks_in
+filled-clears n k ws ys long few e z = go (filled k ws ys (omega arith) z)
+  where
+    go : ys ≡ replicate k 0 → Clears n ws (put_mid visited_at k ws ys)
+    go r =
+        let same : length ys ≡ k = rw r (length-replicate k 0) in
+        let zero_at : (u : ℕ) → u < n → get_or (put_mid visited_at k ws ys) (visited_at + u) 0 ≡ 0 =
+        λ u l. mid-at visited_at k ws ys (omega arith) (omega arith) same u (omega arith) ∙ rw r (get_or-replicate k u 0 0 (omega arith)) in
+        record {
+          blank = tabulate-same (λ u. not (eqb (get_or (put_mid visited_at k ws ys) (visited_at + u) 0) 0)) (λ u. false) n
+              (λ u l. ap (λ (x : ℕ). not (eqb x 0)) (zero_at u l)) ∙ tabulate-replicate n false;
+          frame = mid-within visited_at k ws ys (omega arith) (omega arith) same order_at (omega arith);
+        }

@@ -28,7 +28,7 @@ pub fn is_visited(work: &[u32], n: u32, s: Slot) -> bool
     ensures { result ≡ visited_in n work.now s.0 }
 {
     if s.0 < n {
-        return basics::word(work, area::VISITED + (s.0 as usize)) != 0;
+        return basics::get_or(work, area::VISITED + (s.0 as usize), 0) != 0;
     }
     true
 }
@@ -39,11 +39,7 @@ pub fn clear_marks(work: &mut [u32], n: u32)
     requires n_bound { n ≤ 1024 }
     ensures { Clears n work.old work.new }
 {
-    let mut i: u32 = 0;
-    while i < n {
-        basics::put(work, area::VISITED + (i as usize), 0);
-        i += 1;
-    }
+    work[area::VISITED..area::VISITED + n as usize].fill(0);
 }
 
 // Walks to a bit unless it was visited.
@@ -108,10 +104,8 @@ pub fn topo_sort(work: &mut [u32], n: u32) -> u32
 {
     clear_marks(work, n);
     let mut count: u32 = 0;
-    let mut s: u32 = 0;
-    while s < n {
+    for s in 0..n {
         count = walk_bit(work, n, Slot(s), count);
-        s += 1;
     }
     count
 }

@@ -8,17 +8,17 @@ use native.Mathlib.Omega.{arith}
 use lib.Dec.{eqb, ltb}
 use lib.ListN.{length, length-map}
 use borrow.Author.Tests.{ltb-true, not-false}
+use Rattle.std.specs.Prelude.{Ok}
 use Rattle.value.specs.declared.Slot.{Slot}
 use Rattle.value.specs.declared.Driver.TheVariants as driven
 use Rattle.value.specs.Value.{net_at, driver}
 use Rattle.cell.specs.declared.Record.{Record}
 use Rattle.cell.specs.declared.Cell.TheVariants.{Input}
-use Rattle.kinds.specs.Kinds.{kind_of}
+use Rattle.kinds.specs.Kinds.{is_known}
 use Rattle.cell.specs.Operands.{field_of, is_operand}
 use Rattle.cell.specs.Records.{record_of, record_in, cell_of}
 use Rattle.loops.specs.Reach.{OnLoop, on_loop}
 use Rattle.loops.proofs.Rank.{rank, rank_falls, no-loop-below}
-use Rattle.refusals.specs.declared.Verdict.TheVariants.{Pass}
 use Rattle.refusals.specs.Refusals.{first_of}
 use Rattle.checking.specs.Checking.{unknown_kind, reserved_field, bit_out_of_sequence, undriven, undriven_field, netlist_stages}
 use Rattle.checking.proofs.Groups.{kind-exactly, field-exactly, bit-exactly, operand-exactly, records-exactly, loops-exactly, netlist-exactly}
@@ -47,7 +47,7 @@ module _ (rs : List Record) where
   unfolding undriven_field
   operand-tight r f x e o d = slot-tight x (sym (ap₂ (λ b y. b && undriven rs y) o d) ∙ e)
 
-  module _ (pass : first_of (netlist_stages rs) ≡ Pass) where
+  module _ (pass : first_of (netlist_stages rs) ≡ Ok tt) where
     pub record Passed (s : ℕ) : Type 0 where
       pub kind : unknown_kind (record_in rs s) ≡ false
       pub fields : reserved_field (record_in rs s) ≡ false
@@ -67,9 +67,9 @@ module _ (rs : List Record) where
           loops = (loops-exactly rs).0 p.loops s l;
         }
 
-    pub passed-known : (s : ℕ) → s < length rs → (kind_of (record_in rs s).kind).known ≡ true
+    pub passed-known : (s : ℕ) → s < length rs → is_known (record_in rs s).kind ≡ true
     unfolding unknown_kind
-    passed-known s l = not-false (kind_of (record_in rs s).kind).known (passed s l).kind
+    passed-known s l = not-false (is_known (record_in rs s).kind) (passed s l).kind
 
     no_loop : (s : ℕ) → OnLoop rs s → ⊥
     no_loop = no-loop-below rs (λ i l. (passed i l).loops)

@@ -20,8 +20,7 @@ use Rattle.cell.specs.declared.Cell.TheVariants.{Input}
 use Rattle.cell.proofs.RoundTrips.{cell-back}
 use Rattle.netlist.specs.Netlist.{cell_in}
 use Rattle.netlist.specs.Shape.{visit_mut}
-use Rattle.numberer.specs.declared.Found.{Found}
-use Rattle.numberer.specs.declared.Found.TheVariants.{At, Nothing}
+use Rattle.std.proofs.Common.{Option, Some, None}
 use Rattle.design.specs.Queue.{driven_to, followed, map_net_new, eq_record, eq_cell, applied, Design}
 use Rattle.numberer.specs.Numberer.{Entry, seek}
 use Rattle.basics.specs.Lists.{All}
@@ -54,24 +53,24 @@ cell-itself c =
     and-true _ _ (and-true _ _ (and-true _ _ (and-true _ _ (eqb-self x.kind) (eqb-self x.flags)) (eqb-self x.a)) (eqb-self x.b)) (eqb-self x.c)
 
 -- what a search finds is the net of an entry with that cell
-pub seek_finds : (P : Cell → Net → Type 0) (es : List Entry) (c : Cell) (n : Net) → All (λ (e : Entry). P e.0 e.1) es → seek es c ≡ At n → P c n
+pub seek_finds : (P : Cell → Net → Type 0) (es : List Entry) (c : Cell) (n : Net) → All (λ (e : Entry). P e.0 e.1) es → seek es c ≡ Some n → P c n
 unfolding seek All
 seek_finds P [] c n h e = let z : ◌≡◌ {A = ℕ} 0 1 = cc in absurd (omega arith)
 seek_finds P (x ∷ es) c n h e = go (eq_cell x.0 c) refl e (seek_finds P es c n h.1)
   where
-    go : (b : Bool) → eq_cell x.0 c ≡ b → cond b (At x.1) (seek es c) ≡ At n → (seek es c ≡ At n → P c n) → P c n
+    go : (b : Bool) → eq_cell x.0 c ≡ b → cond b (Some x.1) (seek es c) ≡ Some n → (seek es c ≡ Some n → P c n) → P c n
     go true q f rec = let m : x.1 ≡ n = cc in subst (P c) m (subst (λ (y : Cell). P y x.1) (cell-equal x.0 c q) h.0)
     go false q f rec = rec f
 
-pub seek-none : (es : List Entry) (c : Cell) → All (λ e. eq_cell e.0 c ≡ false) es → seek es c ≡ Nothing
+pub seek-none : (es : List Entry) (c : Cell) → All (λ e. eq_cell e.0 c ≡ false) es → seek es c ≡ None
 unfolding All seek
 seek-none [] c h = refl
-seek-none (e ∷ es) c h = ap (λ (b : Bool). cond b (At e.1) (seek es c)) h.0 ∙ seek-none es c h.1
+seek-none (e ∷ es) c h = ap (λ (b : Bool). cond b (Some e.1) (seek es c)) h.0 ∙ seek-none es c h.1
 
 -- a search goes on where it found nothing
-abbrev pub else_found : Found → Found → Found
-else_found (At m) f = At m
-else_found Nothing f = f
+abbrev pub else_found : Option Net → Option Net → Option Net
+else_found (Some m) f = Some m
+else_found None f = f
 
 pub seek-append : (es fs : List Entry) (c : Cell) → seek (es ++ fs) c ≡ else_found (seek es c) (seek fs c)
 unfolding seek
@@ -79,26 +78,26 @@ seek-append [] fs c = refl
 seek-append (e ∷ es) fs c = go (eq_cell e.0 c) (seek-append es fs c)
   where
     go : (b : Bool) → seek (es ++ fs) c ≡ else_found (seek es c) (seek fs c)
-        → cond b (At e.1) (seek (es ++ fs) c) ≡ else_found (cond b (At e.1) (seek es c)) (seek fs c)
+        → cond b (Some e.1) (seek (es ++ fs) c) ≡ else_found (cond b (Some e.1) (seek es c)) (seek fs c)
     go true h = refl
     go false h = h
 
 -- with one more entry
-pub seek-snoc : (es : List Entry) (e : Entry) (x : Cell) (y : Net) → seek (es ++ (e ∷ [])) x ≡ At y → (seek es x ≡ At y) ⊎ ((e.0 ≡ x) × (e.1 ≡ y))
+pub seek-snoc : (es : List Entry) (e : Entry) (x : Cell) (y : Net) → seek (es ++ (e ∷ [])) x ≡ Some y → (seek es x ≡ Some y) ⊎ ((e.0 ≡ x) × (e.1 ≡ y))
 unfolding seek
 seek-snoc es e x y h = go (seek es x) (eq_cell e.0 x) refl (sym (seek-append es (e ∷ []) x) ∙ h)
   where
-    go : (f : Found) (b : Bool) → eq_cell e.0 x ≡ b → else_found f (cond b (At e.1) Nothing) ≡ At y → (f ≡ At y) ⊎ ((e.0 ≡ x) × (e.1 ≡ y))
-    go (At m) b q k = inl k
-    go Nothing true q k = inr (cell-equal e.0 x q, cc)
-    go Nothing false q k = inl k
+    go : (f : Option Net) (b : Bool) → eq_cell e.0 x ≡ b → else_found f (cond b (Some e.1) None) ≡ Some y → (f ≡ Some y) ⊎ ((e.0 ≡ x) × (e.1 ≡ y))
+    go (Some m) b q k = inl k
+    go None true q k = inr (cell-equal e.0 x q, cc)
+    go None false q k = inl k
 
-pub seek-old : (es : List Entry) (e : Entry) (x : Cell) (y : Net) → seek es x ≡ At y → seek (es ++ (e ∷ [])) x ≡ At y
+pub seek-old : (es : List Entry) (e : Entry) (x : Cell) (y : Net) → seek es x ≡ Some y → seek (es ++ (e ∷ [])) x ≡ Some y
 seek-old es e x y h = seek-append es (e ∷ []) x ∙ ap (λ f. else_found f (seek (e ∷ []) x)) h
 
-pub seek-new : (es : List Entry) (c : Cell) (y : Net) → seek es c ≡ Nothing → seek (es ++ ((c, y) ∷ [])) c ≡ At y
+pub seek-new : (es : List Entry) (c : Cell) (y : Net) → seek es c ≡ None → seek (es ++ ((c, y) ∷ [])) c ≡ Some y
 unfolding seek
-seek-new es c y h = seek-append es ((c, y) ∷ []) c ∙ ap (λ f. else_found f (seek ((c, y) ∷ []) c)) h ∙ ap (λ b. cond b (At y) Nothing) (cell-itself c)
+seek-new es c y h = seek-append es ((c, y) ∷ []) c ∙ ap (λ f. else_found f (seek ((c, y) ∷ []) c)) h ∙ ap (λ b. cond b (Some y) None) (cell-itself c)
 
 -- Replacements
 module _ (rs : List Net) where

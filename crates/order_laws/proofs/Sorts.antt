@@ -10,7 +10,7 @@ use borrow.Author.Tests.{eqb-true, leb-true, ne_eqb, lt-leb}
 use Rattle.value.specs.declared.Net.{Net}
 use Rattle.cell.specs.declared.Cell.{Cell}
 use Rattle.cell.specs.declared.Cell.TheVariants.{Input, Output, Buf, Not, And, Or, Xor, Mux, Aig}
-use Rattle.kinds.specs.Kinds.{kind_of, sort_of}
+use Rattle.kinds.specs.Kinds.{is_known, kind_of, sort_of}
 use Rattle.cell.specs.Records.{cell_record}
 use Rattle.netlist.specs.Shape.{visit_mut, is_input, is_source, is_output, has_effects, is_splittable}
 use Rattle.netlist.specs.Netlist.{cell_in}
@@ -27,7 +27,7 @@ kind_in c = (cell_record 0 c).kind
 described : (f : Net → Net) (bit : ℕ) (c : Cell)
     → ((cell_record bit c).bit ≡ bit)
     × ((cell_record bit (visit_mut f c)).kind ≡ (cell_record bit c).kind)
-    × ((kind_of (cell_record bit c).kind).known ≡ true)
+    × (is_known (cell_record bit c).kind ≡ true)
     × (leb (cell_record bit c).kind 9 ≡ true)
     × (is_input c ≡ eqb (cell_record bit c).kind 1)
     × (is_output c ≡ eqb (cell_record bit c).kind 2)
@@ -51,7 +51,7 @@ record-bit bit c = (described (λ n. n) bit c).0
 pub kind-kept : (f : Net → Net) (bit : ℕ) (c : Cell) → (cell_record bit (visit_mut f c)).kind ≡ (cell_record bit c).kind
 kind-kept f bit c = (described f bit c).1
 
-pub kind-known : (bit : ℕ) (c : Cell) → (kind_of (cell_record bit c).kind).known ≡ true
+pub kind-known : (bit : ℕ) (c : Cell) → is_known (cell_record bit c).kind ≡ true
 kind-known bit c = (described (λ n. n) bit c).2
 
 pub kind-last : (bit : ℕ) (c : Cell) → leb (cell_record bit c).kind 9 ≡ true

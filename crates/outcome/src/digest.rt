@@ -1,28 +1,24 @@
 // The two sums by which the fixed list keeps a reply (docs/ORACLE.md).
-#[derive(Clone, Copy)]
+#[derive(Clone, Copy, Debug, PartialEq, Eq)]
 pub struct Sums {
     pub first: u32,
     pub second: u32,
 }
 
-fn first_with(sum: u32, byte: u8) -> u32 {
-    (((sum as u64) * 16777619 + (byte as u64) + 1) % 4294967296) as u32
-}
-
-fn second_with(sum: u32, byte: u8) -> u32 {
-    (((sum as u64) * 22695477 + (byte as u64) + 1) % 4294967296) as u32
-}
-
-pub fn sums_of(bytes: &[u8]) -> Sums {
-    let mut first: u32 = 2166136261;
-    let mut second: u32 = 2166136261;
-    for byte in bytes {
-        first = first_with(first, *byte);
-        second = second_with(second, *byte);
+impl Sums {
+    pub(crate) fn of(bytes: &[u8]) -> Sums {
+        Sums {
+            first: sum(bytes, 16777619),
+            second: sum(bytes, 22695477),
+        }
     }
-    Sums { first, second }
 }
 
-pub fn same_sums(x: Sums, y: Sums) -> bool {
-    x.first == y.first && x.second == y.second
+// Modulo 2^32.
+fn sum(bytes: &[u8], times: u32) -> u32 {
+    bytes.iter().fold(2166136261, |sum: u32, byte| {
+        sum.wrapping_mul(times)
+            .wrapping_add(u32::from(*byte))
+            .wrapping_add(1)
+    })
 }

@@ -2,16 +2,19 @@
 // differs told and counted.
 #![tactic(auto)]
 
+ghost use Rattle.std.specs.Prelude.{◌≡◌, ◌≤◌, ◌++◌, length, slice_index, codes, decimal, OnOk, Some};
+
 mod digest;
 mod tally;
 
 pub use digest::Sums;
-use std::io;
+use std::fmt;
 pub use tally::Tally;
+use thiserror::Error;
 
 // What a call answers: the number that it returns and its first five answer words. The last of these
 // is kept for later: it is 0 today, as are the three words behind it.
-#[derive(Clone, Copy)]
+#[derive(Clone, Copy, Debug, PartialEq, Eq)]
 pub struct Figures {
     pub number: u32,
     pub place: u32,
@@ -19,6 +22,18 @@ pub struct Figures {
     pub extra: u32,
     pub field: u32,
     pub spare: u32,
+}
+
+impl fmt::Display for Figures {
+    ghost output = { λ x. Some (decimal x.number ++ (codes " " ++ (decimal x.place ++ (codes " " ++ (decimal x.count ++ (codes " " ++ (decimal x.extra ++ (codes " " ++ (decimal x.field ++ (codes " " ++ decimal x.spare)))))))))) };
+
+    fn fmt<W: fmt::Write>(&self, f: &mut fmt::Formatter<W>) -> fmt::Result {
+        write!(
+            f,
+            "{} {} {} {} {} {}",
+            self.number, self.place, self.count, self.extra, self.field, self.spare
+        )
+    }
 }
 
 #[derive(Clone, Copy)]
@@ -29,107 +44,73 @@ pub struct Expected {
 }
 
 // The first thing that is not as it must be.
-#[derive(Clone, Copy)]
-pub enum Outcome {
-    AsExpected,
+#[derive(Clone, Copy, Debug, PartialEq, Eq, Error)]
+pub enum Mismatch {
     // There is less space than is to be lent.
+    #[error("too little space")]
     NoSpace,
-    // The figures answered, and those expected.
-    Answered(Figures, Figures),
-    // An answer word behind the figures is not 0.
+    #[error("answered {answered}, expected {expected}")]
+    Answered {
+        answered: Figures,
+        expected: Figures,
+    },
+    #[error("an answer word behind the figures is not 0")]
     AnswerRest,
     // A word of the work slice that is not cleared, or a word behind it that is not kept.
+    #[error("the work slice is not left as it must be")]
     Work,
     // The reply's bytes are not those expected.
+    #[error("the reply differs")]
     Reply,
     // A byte behind the reply that is not kept.
+    #[error("the bytes behind the reply are not kept")]
     ReplyRest,
 }
 
-pub fn judge(number: u32, answer: [u32; 8], expected: Figures) -> Outcome {
-    let answered = Figures {
-        number,
-        place: answer[0],
-        count: answer[1],
-        extra: answer[2],
-        field: answer[3],
-        spare: answer[4],
-    };
-    if !same(answered, expected) {
-        return Outcome::Answered(answered, expected);
-    }
-    if !is_rest_zero(answer) {
-        return Outcome::AnswerRest;
-    }
-    Outcome::AsExpected
+// What a call left: the number that it returned, and its answer words.
+#[derive(Clone, Copy)]
+pub struct Answer {
+    pub number: u32,
+    pub words: [u32; 8],
 }
 
-// The figures and the reply, the first bytes of a space that was spilled with the same seed.
-pub fn judge_reply(
-    number: u32,
-    answer: [u32; 8],
-    space: &[u8],
-    seed: u32,
-    expected: Expected,
-) -> Outcome {
-    let n = answer[1] as usize;
-    let outcome = judge(number, answer, expected.figures);
-    let Outcome::AsExpected = outcome else {
-        return outcome;
-    };
-    if space.len() < n {
-        return Outcome::Reply;
-    }
-    if !digest::same_sums(digest::sums_of(&space[..n]), expected.sums) {
-        return Outcome::Reply;
-    }
-    if !litter::is_kept_behind(space, n, seed) {
-        return Outcome::ReplyRest;
-    }
-    Outcome::AsExpected
-}
-
-fn same(x: Figures, y: Figures) -> bool {
-    x.number == y.number
-        && x.place == y.place
-        && x.count == y.count
-        && x.extra == y.extra
-        && x.field == y.field
-        && x.spare == y.spare
-}
-
-fn is_rest_zero(answer: [u32; 8]) -> bool {
-    answer[5] == 0 && answer[6] == 0 && answer[7] == 0
-}
-
-// Writes what is not as it must be, to the end of its line.
-pub fn tell(rt: &impl Print, outcome: Outcome) -> io::Result<()> {
-    match outcome {
-        Outcome::AsExpected => Ok(()),
-        Outcome::NoSpace => println!(rt; ": too little space"),
-        Outcome::Answered(x, expected) => {
-            print!(rt; ": answered")?;
-            tell_figures(rt, x)?;
-            print!(rt; ", expected")?;
-            tell_figures(rt, expected)?;
-            println!(rt; "")
+impl Answer {
+    pub fn judge(self, expected: Figures) -> Result<(), Mismatch>
+        ensures number { OnOk result (self.number ≡ expected.number) }
+        ensures rest { OnOk result (slice_index self.words 7 ≡ 0) }
+    {
+        let [place, count, extra, field, spare, x, y, z] = self.words;
+        let answered = Figures {
+            number: self.number,
+            place,
+            count,
+            extra,
+            field,
+            spare,
+        };
+        if answered != expected {
+            return Err(Mismatch::Answered { answered, expected });
         }
-        Outcome::AnswerRest => println!(rt; ": an answer word behind the figures is not 0"),
-        Outcome::Work => println!(rt; ": the work slice is not left as it must be"),
-        Outcome::Reply => println!(rt; ": the reply differs"),
-        Outcome::ReplyRest => println!(rt; ": the bytes behind the reply are not kept"),
+        if [x, y, z] != [0; 3] {
+            return Err(Mismatch::AnswerRest);
+        }
+        Ok(())
     }
-}
 
-fn tell_figures(rt: &impl Print, x: Figures) -> io::Result<()> {
-    tell_figure(rt, x.number)?;
-    tell_figure(rt, x.place)?;
-    tell_figure(rt, x.count)?;
-    tell_figure(rt, x.extra)?;
-    tell_figure(rt, x.field)?;
-    tell_figure(rt, x.spare)
-}
-
-fn tell_figure(rt: &impl Print, x: u32) -> io::Result<()> {
-    print!(rt; " {x}")
+    // The figures and the reply, the first bytes of a space that was spilled with the same seed.
+    pub fn judge_reply(self, space: &[u8], seed: u32, expected: Expected) -> Result<(), Mismatch>
+        ensures number { OnOk result (self.number ≡ expected.figures.number) }
+        ensures in_space { OnOk result (slice_index self.words 1 ≤ length space.now) }
+    {
+        self.judge(expected.figures)?;
+        let n = self.words[1] as usize;
+        let reply = space.get(..n).ok_or(Mismatch::Reply)?;
+        if Sums::of(reply) != expected.sums {
+            return Err(Mismatch::Reply);
+        }
+        if !litter::is_kept_behind(space, n, seed) {
+            return Err(Mismatch::ReplyRest);
+        }
+        Ok(())
+    }
 }

@@ -1,15 +1,23 @@
 // How many trials there were, and how many of them differ.
-use std::io;
+ghost use Rattle.std.specs.Prelude.{◌≡◌, ◌++◌, codes, decimal, Some};
 
-#[derive(Clone, Copy)]
+use std::fmt;
+
+#[derive(Clone, Copy, Debug)]
 pub struct Tally {
+    // What is tried, as it is told: `cases`.
+    pub trials: &'static str,
     pub tried: u32,
     pub differ: u32,
 }
 
 impl Tally {
-    pub fn new() -> Tally {
+    pub fn new(trials: &'static str) -> Tally
+        ensures tried { result.tried ≡ 0 }
+        ensures differ { result.differ ≡ 0 }
+    {
         Tally {
+            trials,
             tried: 0,
             differ: 0,
         }
@@ -17,25 +25,18 @@ impl Tally {
 
     pub fn and(self, differs: bool) -> Tally {
         Tally {
-            tried: more(self.tried),
-            differ: if differs {
-                more(self.differ)
-            } else {
-                self.differ
-            },
+            tried: self.tried.saturating_add(1),
+            differ: self.differ.saturating_add(u32::from(differs)),
+            ..self
         }
-    }
-
-    // Writes a line, as `12 cases, 0 differ` for ` cases, `.
-    pub fn tell(self, rt: &impl Print, trials: &[u8]) -> io::Result<()> {
-        let tried = self.tried;
-        print!(rt; "{tried}")?;
-        rt.write_all(trials)?;
-        let differ = self.differ;
-        println!(rt; "{differ} differ")
     }
 }
 
-fn more(x: u32) -> u32 {
-    if x < u32::MAX { x + 1 } else { x }
+// As `12 cases, 0 differ`.
+impl fmt::Display for Tally {
+    ghost output = { λ x. Some (decimal x.tried ++ (codes " " ++ (x.trials.now ++ (codes ", " ++ (decimal x.differ ++ codes " differ"))))) };
+
+    fn fmt<W: fmt::Write>(&self, f: &mut fmt::Formatter<W>) -> fmt::Result {
+        write!(f, "{} {}, {} differ", self.tried, self.trials, self.differ)
+    }
 }

@@ -1,10 +1,10 @@
-// The lister's reader: a ticket's bytes and a place in them. Its methods take it apart, and the work is done by
-// functions of slice and number.
+// The lister's reader: a ticket's bytes and a place in them, an iterator over the records with their slots.
 #![tactic(auto)]
 
-ghost use Rattle.std.specs.Prelude.{◌≡◌, true, ◌+◌, ◌<◌, ◌^◌};
+ghost use Rattle.std.specs.Prelude.{◌≡◌, ◌-◌, ◌/◌, ◌<◌, length};
+ghost use Rattle.std.specs.Iterator.{at_most};
 ghost use Rattle.cell.specs.Records.{record_at};
-ghost use Rattle.reader.specs.Read.{has_record, standing, following};
+ghost use Rattle.reader.specs.Read.{standing, Reads};
 
 use cell::Record;
 use value::Slot;
@@ -12,23 +12,16 @@ use value::Slot;
 #[derive(Clone, Copy)]
 pub struct Reader<'a> {
     pub bytes: &'a [u8],
-    // The slot whose record is read.
-    pub at: u32,
-}
-
-// The bytes have a record of this slot.
-fn has_record(bytes: &[u8], at: u32) -> bool
-    ensures { result ≡ has_record bytes.now at }
-{
-    (at as usize) < bytes.len() / 16
+    // The slot whose record is read next; a slice can have more records than there are slots of a ticket.
+    pub at: usize,
 }
 
 // The record of this slot.
-fn record_of(bytes: &[u8], at: u32) -> Record
-    requires { has_record bytes.now at ≡ true }
+fn record_of(bytes: &[u8], at: usize) -> Record
+    requires { at < length bytes.now / 16 }
     ensures { result ≡ record_at bytes.now at }
 {
-    cell::record_at(bytes, Slot(at))
+    cell::record_at(&bytes[at * 16..], Slot(0))
 }
 
 impl<'a> Reader<'a> {
@@ -38,30 +31,21 @@ impl<'a> Reader<'a> {
     {
         Reader { bytes, at: 0 }
     }
+}
 
-    // There is a record where it stands.
-    pub fn more(self) -> bool
-        ensures { result ≡ has_record self.entry.bytes.now self.entry.at }
-    {
-        has_record(self.bytes, self.at)
-    }
+impl<'a> Iterator for Reader<'a> {
+    type Item = (usize, Record);
 
-    // The record where it stands.
-    pub fn record(self) -> Record
-        requires { has_record self.bytes.now self.at ≡ true }
-        ensures { result ≡ record_at self.entry.bytes.now self.entry.at }
-    {
-        record_of(self.bytes, self.at)
-    }
+    ghost next_gives = { Reads };
 
-    // The reader at the next record.
-    pub fn next(self) -> Reader<'a>
-        requires { self.at + 1 < 2 ^ 32 }
-        ensures { result ≡ following self.entry }
-    {
-        Reader {
-            bytes: self.bytes,
-            at: self.at + 1,
+    ghost remaining = { λ r. at_most (length r.bytes.now / 16 - r.at) };
+
+    fn next(&mut self) -> Option<(usize, Record)> {
+        let s = self.at;
+        if self.bytes.len() / 16 <= s {
+            return None;
         }
+        self.at += 1;
+        Some((s, record_of(self.bytes, s)))
     }
 }

@@ -4,10 +4,11 @@
 ghost use Rattle.std.specs.Prelude.{◌≡◌};
 ghost use Rattle.refusals.specs.Refusals.{figures_at, figures};
 
+use kinds::Field;
 use value::Slot;
 
 // Why a call turns its input away.
-#[derive(Clone, Copy)]
+#[derive(Clone, Copy, PartialEq, Eq)]
 pub enum Refusal {
     ShortWork,
     PartialRecord,
@@ -15,8 +16,8 @@ pub enum Refusal {
     UnknownKind(Slot),
     ReservedField(Slot),
     BitOutOfSequence(Slot),
-    // The record, and which of its fields fails: 1 for a, 2 for b, 3 for c.
-    UndrivenOperand(Slot, u32),
+    // The record, and which of its fields fails.
+    UndrivenOperand(Slot, Field),
     Loop(Slot),
     SlotsExhausted,
     LevelCount,
@@ -25,14 +26,8 @@ pub enum Refusal {
     ShortReply,
 }
 
-#[derive(Clone, Copy)]
-pub enum Verdict {
-    Pass,
-    Refused(Refusal),
-}
-
 // A refusal's number and place in the paper's table, and the field that fails of refusal 7, 0 for all other refusals.
-#[derive(Clone, Copy)]
+#[derive(Clone, Copy, Debug, PartialEq, Eq)]
 pub struct Figures {
     pub number: u32,
     pub place: u32,
@@ -49,21 +44,23 @@ fn numbered(number: u32, place: u32, field: u32) -> Figures
     }
 }
 
-pub fn figures_of(r: Refusal) -> Figures
-    ensures { result ≡ figures r }
-{
-    match r {
-        Refusal::ShortWork => numbered(1, 0, 0),
-        Refusal::PartialRecord => numbered(2, 0, 0),
-        Refusal::TooManyRecords => numbered(3, 0, 0),
-        Refusal::UnknownKind(s) => numbered(4, s.0, 0),
-        Refusal::ReservedField(s) => numbered(5, s.0, 0),
-        Refusal::BitOutOfSequence(s) => numbered(6, s.0, 0),
-        Refusal::UndrivenOperand(s, f) => numbered(7, s.0, f),
-        Refusal::Loop(s) => numbered(8, s.0, 0),
-        Refusal::SlotsExhausted => numbered(9, 0, 0),
-        Refusal::LevelCount => numbered(10, 0, 0),
-        Refusal::LevelValue(i) => numbered(11, i, 0),
-        Refusal::ShortReply => numbered(12, 0, 0),
+impl From<Refusal> for Figures {
+    ghost from_gives = { λ r f. f ≡ figures r };
+
+    fn from(r: Refusal) -> Figures {
+        match r {
+            Refusal::ShortWork => numbered(1, 0, 0),
+            Refusal::PartialRecord => numbered(2, 0, 0),
+            Refusal::TooManyRecords => numbered(3, 0, 0),
+            Refusal::UnknownKind(s) => numbered(4, s.0, 0),
+            Refusal::ReservedField(s) => numbered(5, s.0, 0),
+            Refusal::BitOutOfSequence(s) => numbered(6, s.0, 0),
+            Refusal::UndrivenOperand(s, f) => numbered(7, s.0, f as u32),
+            Refusal::Loop(s) => numbered(8, s.0, 0),
+            Refusal::SlotsExhausted => numbered(9, 0, 0),
+            Refusal::LevelCount => numbered(10, 0, 0),
+            Refusal::LevelValue(i) => numbered(11, i, 0),
+            Refusal::ShortReply => numbered(12, 0, 0),
+        }
     }
 }

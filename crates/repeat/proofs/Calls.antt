@@ -5,10 +5,10 @@ use Prim.Native.Nat.{ℕ, ◌≤◌}
 use native.Mathlib.Omega.{arith}
 use lib.ListN.{length}
 use borrow.Author.Tests.{ltb-false}
+use Rattle.refusals.specs.Refusals.{Verdict}
+use Rattle.std.specs.Prelude.{Ok}
 use Rattle.cell.specs.Records.{records_of}
 use Rattle.loops.proofs.Rank.{rank}
-use Rattle.refusals.specs.declared.Verdict.{Verdict}
-use Rattle.refusals.specs.declared.Verdict.TheVariants.{Pass}
 use Rattle.checking.specs.Checking.{check_stages}
 use Rattle.refusals.proofs.Stages.{passes-both, passed-exactly}
 use Rattle.netlist.specs.Netlist.{Netlist}
@@ -19,7 +19,10 @@ use Rattle.calls.specs.Calls.{decoded, check_verdict, merge_bytes, merge_verdict
 use Rattle.kept.specs.Kept.{Bytes}
 use Rattle.kept.proofs.Sound.{Sound}
 use Rattle.kept.proofs.Tickets.{ticket-sound}
-use Rattle.kept.proofs.Calls.{ticket-labelled, written_count, merged-count, written-first}
+use Rattle.kept.proofs.Calls.{ticket-labelled, written-first}
+use Rattle.calls.specs.declared.Merged.{Merged}
+use Rattle.calls.specs.Answers.{merged_of}
+use Rattle.calls.proofs.Answers.{answered}
 use Rattle.rewrite_sound.proofs.Result.{Ran, rewrite-ranks, rewrite-shorter, rewrite-labelled}
 use Rattle.rewrite_sound.proofs.Calls.{rust-runs, ticket-ran}
 use Rattle.rewrite_normal.proofs.Result.{rewrite-normal}
@@ -32,15 +35,15 @@ module _ (t u : List ℕ) (call : Rewriting t u) where
   abbrev verdict : Verdict
   verdict = rewrite_verdict find_new_cell call.words t call.reply
 
-  passed : (verdict ≡ Pass) × (call.count ≡ length (rewrite_bytes find_new_cell t))
+  passed : (verdict ≡ Ok tt) × (call.count ≡ length (rewrite_bytes find_new_cell t))
   unfolding rewrite_answer
-  passed = written_count verdict (length (rewrite_bytes find_new_cell t)) call.count call.accepted
+  passed = answered verdict (length (rewrite_bytes find_new_cell t)) call.count call.accepted
 
   result : u ≡ rewrite_bytes find_new_cell t
   unfolding rewrite_reply
   result = sym call.result ∙ written-first verdict call.reply (rewrite_bytes find_new_cell t) call.count passed.0 passed.1
 
-  checked : check_verdict call.words t ≡ Pass
+  checked : check_verdict call.words t ≡ Ok tt
   unfolding check_verdict rewrite_verdict
   checked = (passes-both (check_stages call.words t) (rewrite_stages find_new_cell t call.reply) passed.0).0
 
@@ -57,9 +60,11 @@ module _ (t : List ℕ) (r : Result t) where
     abbrev merge-verdict : Verdict
     merge-verdict = merge_verdict call.words t call.reply
 
-    merged-all : (merge-verdict ≡ Pass) × (call.count ≡ length (merge_bytes t))
+    merged-all : (merge-verdict ≡ Ok tt) × (call.count ≡ length (merge_bytes t))
     unfolding merge_answer
-    merged-all = merged-count merge-verdict (length (merge_bytes t)) call.count (merge (decoded t)).1 call.changed call.accepted
+    merged-all =
+        let a = answered merge-verdict (merged_of (length (merge_bytes t)) (merge (decoded t)).1) (merged_of call.count call.changed) call.accepted in
+        (a.0, ap (λ (told : Merged). told.bytes) a.1)
 
     merged-same : u ≡ t
     unfolding merge_reply
@@ -74,7 +79,7 @@ first-result : (t u : List ℕ) → Bytes t → NoAndInverter t → Rewriting t 
 unfolding rewrite_bytes rewrite_run
 first-result t u bytes none call =
     let words : ℕ = call.words in
-    let pass : check_verdict words t ≡ Pass = checked t u call in
+    let pass : check_verdict words t ≡ Ok tt = checked t u call in
     let d : Netlist = decoded t in
     let ranks : ℕ → ℕ = rank (records_of t) in
     let sound : Sound d ranks = ticket-sound words t pass in

@@ -22,7 +22,7 @@ use Rattle.order.specs.Orders.{bit_deps, topo_sort}
 use Rattle.design.specs.Queue.{unchanged, followed, map_net_new, find_new_cell, applied, eq_record, eq_cell}
 use Rattle.numberer.specs.Numberer.{seek}
 use Rattle.compact.specs.Compact.{keep, kept_slots, count_kept, net_map, compact}
-use Rattle.normalize.specs.Outcomes.{from_control, ◌or_else◌}
+use Rattle.normalize.specs.Outcomes.{from_control, first_change}
 use Rattle.normalize.specs.Normalize.{normalize}
 use Rattle.aig.specs.Aig.{if_not, if_aig, if_xor, not_rule, aig_of_not, and_and, and_with, aig_of_and, nand_and, xor_of, nand_nand, nand_with, aig_of_nand, xor_and, xor_with, aig_of_xor, aig_order, aig_rule, and_xor, xor_xor, xor_order, xor_rule, simple_aig_opt}
 use Rattle.rewrite.specs.Rewriter.{stamp, find_cell, entered, finished, weight}
@@ -52,7 +52,7 @@ v = encoded (netlist_of (inputs ++ (record_of 2 0 0 7 9 0 ∷ record_of 9 0 0 8 
 
 -- a work and a reply slice that are long enough
 computed : Rewriting t u × Rewriting u v
-unfolding eq_net le_net driver is_always canonicalize not_control eq_control le_control word16 word32 bytes16 bytes32 kind_of field_of use_of is_operand is_comb_edge edge_at record_at records_of bytes_of cell_of cell_record tabulate step_back reaching_in reaches on_loop first_of slot_by_slot unknown_kind reserved_field follows out_of_sequence bit_out_of_sequence undriven_field kind_stages field_stages bit_stages operand_stages record_stages loop_stages size_group record_group loop_group netlist_stages check_stages visit visit_mut has_effects netlist_of encode ticket_of those any_of joined sources output_of iter_cells cell_deps Netlist.run each down walk walk_from bit_deps topo_sort unchanged followed map_net_new find_new_cell applied eq_record eq_cell seek keep kept_slots count_kept net_map compact ◌or_else◌ from_control normalize if_not if_aig if_xor not_rule aig_of_not and_and and_with aig_of_and nand_and xor_of nand_nand nand_with aig_of_nand xor_and xor_with aig_of_xor aig_order aig_rule and_xor xor_xor xor_order xor_rule simple_aig_opt stamp find_cell entered finished weight rules process process_cell add_cell run_item run_items run rewrite put check_verdict rewrite_run rewrite_bytes rewrite_stages rewrite_verdict rewrite_answer rewrite_reply sort_of
+unfolding eq_net le_net driver is_always canonicalize not_control eq_control le_control word16 word32 bytes16 bytes32 kind_of field_of use_of is_operand is_comb_edge edge_at record_at records_of bytes_of cell_of cell_record tabulate step_back reaching_in reaches on_loop first_of slot_by_slot unknown_kind reserved_field follows out_of_sequence bit_out_of_sequence undriven_field kind_stages field_stages bit_stages operand_stages record_stages loop_stages size_group record_group loop_group netlist_stages check_stages visit visit_mut has_effects netlist_of encode ticket_of those any_of joined sources output_of iter_cells cell_deps Netlist.run each down walk walk_from bit_deps topo_sort unchanged followed map_net_new find_new_cell applied eq_record eq_cell seek keep kept_slots count_kept net_map compact first_change from_control normalize if_not if_aig if_xor not_rule aig_of_not and_and and_with aig_of_and nand_and xor_of nand_nand nand_with aig_of_nand xor_and xor_with aig_of_xor aig_order aig_rule and_xor xor_xor xor_order xor_rule simple_aig_opt stamp find_cell entered finished weight rules process process_cell add_cell run_item run_items run rewrite put check_verdict rewrite_run rewrite_bytes rewrite_stages rewrite_verdict rewrite_answer rewrite_reply sort_of
 computed = (
   record { words = 16384; reply = replicate 160 255; count = 128; accepted = refl; result = refl },
   record { words = 16384; reply = replicate 160 255; count = 128; accepted = refl; result = refl },

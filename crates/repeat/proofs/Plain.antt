@@ -6,10 +6,10 @@ use Prim.Native.Nat.{ℕ}
 use native.Mathlib.Omega.{arith}
 use lib.Dec.{eqb}
 use lib.ListN.{get_or}
+use Rattle.std.specs.Prelude.{Ok}
 use Rattle.cell.specs.declared.Record.{Record}
 use Rattle.cell.specs.Records.{records_of, record_of}
 use Rattle.cell.proofs.Lists.{records-length, records-at}
-use Rattle.refusals.specs.declared.Verdict.TheVariants.{Pass}
 use Rattle.netlist.specs.Netlist.{Netlist, cell_in}
 use Rattle.calls.specs.Calls.{decoded, check_verdict}
 use Rattle.basics.proofs.Members.{all-at, none_any}
@@ -18,7 +18,7 @@ use Rattle.rewrite_normal.specs.Plain.{Plain}
 use Rattle.rewrite_normal.proofs.Cells.{aig-kind}
 use Rattle.repeat.specs.Repeat.{NoAndInverter}
 
-pub ticket-plain : (words : ℕ) (t : List ℕ) → check_verdict words t ≡ Pass → NoAndInverter t → Plain (decoded t).cells
+pub ticket-plain : (words : ℕ) (t : List ℕ) → check_verdict words t ≡ Ok tt → NoAndInverter t → Plain (decoded t).cells
 ticket-plain words t pass none s l =
     let d : Netlist = decoded t in
     aig-kind (get_or d.bits s 0) (cell_in d.cells s)

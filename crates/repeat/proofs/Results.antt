@@ -7,12 +7,11 @@ use native.Mathlib.Omega.{arith}
 use lib.Dec.{ltb}
 use lib.ListN.{length}
 use borrow.Author.Tests.{le-ltb, ltb-false}
+use Rattle.std.specs.Prelude.{Ok}
 use Rattle.cell.specs.declared.Record.{Record}
 use Rattle.cell.specs.Records.{records_of}
-use Rattle.refusals.specs.declared.Verdict.{Verdict}
-use Rattle.refusals.specs.declared.Verdict.TheVariants.{Pass}
 use Rattle.refusals.specs.declared.Refusal.TheVariants.{SlotsExhausted, ShortReply}
-use Rattle.refusals.specs.Refusals.{Stage, first_of}
+use Rattle.refusals.specs.Refusals.{Stage, first_of, Verdict}
 use Rattle.checking.specs.Checking.{work_stage, size_stage, netlist_stages, check_stages}
 use Rattle.refusals.proofs.Stages.{one-exactly, passes-both, group-out}
 use Rattle.netlist.specs.Netlist.{Netlist, encode}
@@ -20,7 +19,7 @@ use Rattle.design.specs.Queue.{find_new_cell}
 use Rattle.compact.proofs.Lists.{ticket-length}
 use Rattle.merge.specs.Merge.{merge}
 use Rattle.rewrite.specs.Rewrite.{run, slots_of, rewrite}
-use Rattle.calls.specs.Answers.{written_by, merged_by}
+use Rattle.calls.specs.Answers.{answer_by, merged_of}
 use Rattle.calls.specs.Calls.{decoded, encoded, room, merge_bytes, merge_verdict, merge_answer, rewrite_run, rewrite_bytes, rewrite_stages, rewrite_verdict, rewrite_answer}
 use Rattle.kept.proofs.Passing.{encode-length}
 use Rattle.kept.proofs.Bytes.{Labelled, records-back, netlist-back, encoded-records}
@@ -57,7 +56,7 @@ module _ (u : List ℕ) (r : Result u) where
   records : records_of u ≡ encode d
   records = ap records_of r.is ∙ records-back d r.ranks r.normal.sound r.labelled
 
-  records-pass : first_of (netlist_stages (records_of u)) ≡ Pass
+  records-pass : first_of (netlist_stages (records_of u)) ≡ Ok tt
   records-pass = ap (λ (v : List ℕ). first_of (netlist_stages (records_of v))) r.is ∙ encoded-records d r.ranks r.normal.sound r.labelled
 
   later : (words : ℕ) (rest : List Stage) → first_of (check_stages words u ++ rest) ≡ first_of (work_stage words ∷ size_stage u ∷ rest)
@@ -76,11 +75,11 @@ module _ (u : List ℕ) (r : Result u) where
   merge-verdict words reply =
       later words (room reply (merge_bytes u) ∷ []) ∙ ap (λ (bs : List ℕ). first_of (work_stage words ∷ size_stage u ∷ room reply bs ∷ [])) merge-bytes
 
-  pub merge-answers : (words : ℕ) (reply : List ℕ) → merge_answer words u reply ≡ merged_by (later_verdict words u reply) (length u) false
+  pub merge-answers : (words : ℕ) (reply : List ℕ) → merge_answer words u reply ≡ answer_by (later_verdict words u reply) (merged_of (length u) false)
   unfolding merge_answer
   merge-answers words reply =
-      ap (λ (v : Verdict). merged_by v (length (merge_bytes u)) (merge (decoded u)).1) (merge-verdict words reply)
-      ∙ ap₂ (λ (bs : List ℕ) (m : Netlist × Bool). merged_by (later_verdict words u reply) (length bs) m.1) merge-bytes merges
+      ap (λ (v : Verdict). answer_by v (merged_of (length (merge_bytes u)) (merge (decoded u)).1)) (merge-verdict words reply)
+      ∙ ap₂ (λ (bs : List ℕ) (m : Netlist × Bool). answer_by (later_verdict words u reply) (merged_of (length bs) m.1)) merge-bytes merges
 
   -- rewriting
   abbrev next : Netlist
@@ -121,9 +120,9 @@ module _ (u : List ℕ) (r : Result u) where
       (λ e. (one-exactly full).1 (next-slots ((one-exactly (size_stage u)).0 (passes-both (work_stage words ∷ []) (size_stage u ∷ []) e).1)))
       ∙ ap (λ (k : ℕ). first_of (work_stage words ∷ size_stage u ∷ (ltb (length reply) k, ShortReply) ∷ [])) next-long
 
-  pub next-answers : (words : ℕ) (reply : List ℕ) → rewrite_answer find_new_cell words u reply ≡ written_by (later_verdict words u reply) (length u)
+  pub next-answers : (words : ℕ) (reply : List ℕ) → rewrite_answer find_new_cell words u reply ≡ answer_by (later_verdict words u reply) (length u)
   unfolding rewrite_answer
-  next-answers words reply = ap₂ written_by (next-verdict words reply) next-long
+  next-answers words reply = ap₂ answer_by (next-verdict words reply) next-long
 
   pub next-result : (v : List ℕ) → v ≡ rewrite_bytes find_new_cell u → slots_of (rewrite_run find_new_cell u) ≤ 1024 → Result v
   next-result v e few = record {

@@ -1,16 +1,13 @@
 -- ONE REWRITING IS ENOUGH (paper, demand 3), over the answers and replies of the calls. Assumes nothing: these are definitions.
-use Rattle.std.specs.Prelude.{◌≡◌, Bool, false, List, [], ◌∷◌, ℕ, eqb, length, take}
+use Rattle.std.specs.Prelude.{◌≡◌, Bool, false, List, [], ◌∷◌, ℕ, eqb, length, take, Ok}
 use Rattle.kinds.specs.declared.Sort.TheVariants as sort
 use Rattle.kinds.specs.Kinds.{number_of}
 use Rattle.cell.specs.Records.{records_of}
-use Rattle.refusals.specs.declared.Verdict.{Verdict}
-use Rattle.refusals.specs.Refusals.{first_of}
+use Rattle.refusals.specs.Refusals.{first_of, Verdict}
 use Rattle.checking.specs.Checking.{work_stage, size_stage}
 use Rattle.basics.specs.Lists.{any_of}
 use Rattle.design.specs.Queue.{find_new_cell}
-use Rattle.calls.specs.declared.Written.TheVariants as written
-use Rattle.calls.specs.declared.Merged.TheVariants as merged
-use Rattle.calls.specs.Answers.{written_by, merged_by}
+use Rattle.calls.specs.Answers.{answer_by, merged_of}
 use Rattle.calls.specs.Calls.{decoded, room, merge_answer, merge_reply, rewrite_answer, rewrite_reply}
 use Rattle.normal.specs.Paired.{Paired}
 use Rattle.repeat.specs.Pairing.{RecordsPaired}
@@ -25,7 +22,7 @@ pub record Rewriting (t u : List ℕ) : Type 0 where
   pub words : ℕ
   pub reply : List ℕ
   pub count : ℕ
-  pub accepted : rewrite_answer find_new_cell words t reply ≡ written.Accepted count
+  pub accepted : rewrite_answer find_new_cell words t reply ≡ Ok count
   pub result : take count (rewrite_reply find_new_cell words t reply) ≡ u
 
 -- an accepted call that merges it, likewise
@@ -34,7 +31,7 @@ pub record Merging (t u : List ℕ) : Type 0 where
   pub reply : List ℕ
   pub count : ℕ
   pub changed : Bool
-  pub accepted : merge_answer words t reply ≡ merged.Accepted count changed
+  pub accepted : merge_answer words t reply ≡ Ok (merged_of count changed)
   pub result : take count (merge_reply words t reply) ≡ u
 
 -- 1, 3 and 12 alone, 12 where the reply is shorter than the ticket t itself
@@ -46,7 +43,7 @@ later_verdict words t reply = first_of (work_stage words ∷ size_stage t ∷ ro
 pub record MergingKeeps (t : List ℕ) : Type 0 where
   pub long : (u : List ℕ) (call : Merging t u) → call.count ≡ length t
   pub same : (u : List ℕ) → Merging t u → u ≡ t
-  pub answers : (words : ℕ) (reply : List ℕ) → merge_answer words t reply ≡ merged_by (later_verdict words t reply) (length t) false
+  pub answers : (words : ℕ) (reply : List ℕ) → merge_answer words t reply ≡ answer_by (later_verdict words t reply) (merged_of (length t) false)
 
 -- for every first run, on t with result u, and every second run, on u with result v: the records of v are those of u up to renumbering and
 -- the exchange of operands, as records and as the cells read from them; merging changes no byte of u, and none of v. A second run is refused
@@ -57,4 +54,4 @@ pub record OneIsEnough (t : List ℕ) : Type 0 where
   pub merging_first : (u : List ℕ) → Rewriting t u → MergingKeeps u
   pub merging_second : (u v : List ℕ) → Rewriting t u → Rewriting u v → MergingKeeps v
   pub answers_again : (u : List ℕ) → Rewriting t u → (words : ℕ) (reply : List ℕ)
-      → rewrite_answer find_new_cell words u reply ≡ written_by (later_verdict words u reply) (length u)
+      → rewrite_answer find_new_cell words u reply ≡ answer_by (later_verdict words u reply) (length u)

@@ -1,21 +1,23 @@
 // What is expected of a call, as an entry of the list has it.
-use oracle_list::{half, word};
 use outcome::{Figures, Sums};
 
-pub fn figures_of(x: &[u8; 12]) -> Figures {
+pub fn figures_of(entry: [u8; 12]) -> Figures {
+    let [n0, n1, p0, p1, c0, c1, e0, e1, f0, f1, s0, s1] = entry;
+    let word = |low: u8, high: u8| u32::from(u16::from_le_bytes([low, high]));
     Figures {
-        number: half(x[0], x[1]),
-        place: half(x[2], x[3]),
-        count: half(x[4], x[5]),
-        extra: half(x[6], x[7]),
-        field: half(x[8], x[9]),
-        spare: half(x[10], x[11]),
+        number: word(n0, n1),
+        place: word(p0, p1),
+        count: word(c0, c1),
+        extra: word(e0, e1),
+        field: word(f0, f1),
+        spare: word(s0, s1),
     }
 }
 
-pub fn sums_of(x: &[u8; 8]) -> Sums {
+pub fn sums_of(entry: [u8; 8]) -> Sums {
+    let [f0, f1, f2, f3, s0, s1, s2, s3] = entry;
     Sums {
-        first: word(half(x[0], x[1]), half(x[2], x[3])),
-        second: word(half(x[4], x[5]), half(x[6], x[7])),
+        first: u32::from_le_bytes([f0, f1, f2, f3]),
+        second: u32::from_le_bytes([s0, s1, s2, s3]),
     }
 }

@@ -3,11 +3,10 @@ use mathlib.Core.Path.{◌≡◌, refl, sym, ◌∙◌, subst}
 use mathlib.Core.List.{List, ◌++◌}
 use Prim.Native.Nat.{ℕ, ◌<◌}
 use native.Mathlib.Omega.{arith}
+use Rattle.std.specs.Prelude.{Ok, Err}
 use Rattle.cell.specs.declared.Cell.{Cell}
 use Rattle.refusals.specs.declared.Refusal.{Refusal}
-use Rattle.refusals.specs.declared.Verdict.{Verdict}
-use Rattle.refusals.specs.declared.Verdict.TheVariants.{Pass, Refused}
-use Rattle.refusals.specs.Refusals.{Stage, figures, first_of}
+use Rattle.refusals.specs.Refusals.{Stage, figures, first_of, Verdict}
 use Rattle.refusals.proofs.Stages.{later-decides, earlier-decides, EachGives, GivesSuch, both-give, first_gives, Within, each-imp}
 use Rattle.checking.specs.Checking.{check_stages}
 use Rattle.checking.proofs.Groups.{check-gives}
@@ -26,12 +25,12 @@ abbrev pub Other : Verdict → Type 0
 Other v = GivesSuch Before12 v
 
 -- stages that are early, and others behind them
-pub early-then : (xs ys : List Stage) → Early xs → (first_of xs ≡ Pass → Other (first_of ys)) → Other (first_of (xs ++ ys))
+pub early-then : (xs ys : List Stage) → Early xs → (first_of xs ≡ Ok tt → Other (first_of ys)) → Other (first_of (xs ++ ys))
 early-then xs ys e f = go (first_of xs) refl
   where
     go : (v : Verdict) → first_of xs ≡ v → Other (first_of (xs ++ ys))
-    go Pass h = subst Other (sym (later-decides xs ys h)) (f h)
-    go (Refused r) h = subst Other (h ∙ sym (earlier-decides xs ys r h)) (first_gives Before12 xs e)
+    go (Ok u) h = subst Other (sym (later-decides xs ys h)) (f h)
+    go (Err r) h = subst Other (h ∙ sym (earlier-decides xs ys r h)) (first_gives Before12 xs e)
 
 -- ---- the stages of the calls
 pub check-early : (words : ℕ) (t : List ℕ) → Early (check_stages words t)

@@ -7,15 +7,14 @@ use native.Mathlib.Omega.{arith}
 use lib.Dec.{ltb}
 use lib.ListN.{length, get_or, length-map}
 use borrow.Author.Tests.{le-ltb, ltb-false}
+use Rattle.std.specs.Prelude.{Ok, Err}
 use Rattle.logic.specs.declared.Trit.{Trit}
 use Rattle.logic.specs.declared.Trit.TheVariants.{Undef}
 use Rattle.logic.specs.Levels.{byte_of}
 use Rattle.cell.specs.Records.{records_of}
 use Rattle.loops.proofs.Rank.{rank}
 use Rattle.refusals.specs.declared.Refusal.TheVariants.{SlotsExhausted}
-use Rattle.refusals.specs.declared.Verdict.{Verdict}
-use Rattle.refusals.specs.declared.Verdict.TheVariants.{Pass, Refused}
-use Rattle.refusals.specs.Refusals.{Stage, first_of}
+use Rattle.refusals.specs.Refusals.{Stage, first_of, Verdict}
 use Rattle.checking.specs.Checking.{check_stages}
 use Rattle.refusals.proofs.Stages.{first-refuses, first_passes, no-stage, passes-both}
 use Rattle.netlist.specs.Shape.{is_output}
@@ -26,7 +25,7 @@ use Rattle.compact.proofs.Lists.{ticket-length}
 use Rattle.merge.specs.Merge.{merge}
 use Rattle.rewrite.specs.Rewrite.{slots_of, rewrite}
 use Rattle.levels.specs.Evaluate.{given_levels, levels, output_slots, output_levels}
-use Rattle.calls.specs.Answers.{written_by, merged_by, written_figures, merged_figures}
+use Rattle.calls.specs.Answers.{answer_by, written_figures, merged_figures, merged_of}
 use Rattle.calls.specs.Calls.{decoded, encoded, room, check_verdict, compact_bytes, compact_verdict, compact_answer, merge_bytes, merge_verdict, merge_answer, rewrite_run, rewrite_bytes, rewrite_stages, rewrite_verdict, rewrite_answer, level_bytes, stimulus_stages, level_verdict, level_answer}
 use Rattle.kept.proofs.Sound.{Sound}
 use Rattle.kept.proofs.Chosen.{chosen, count-le}
@@ -43,7 +42,7 @@ use Rattle.reply_room.proofs.Early.{Other, early-then, check-early, both-early}
 encoded-long : (d : Netlist) (g : ℕ → ℕ) → Sound d g → length (encoded d) ≡ length d.cells * 16
 encoded-long d g good = ticket-length (encode d) ∙ ap (λ (k : ℕ). k * 16) (encode-length d g good)
 
-module _ (words : ℕ) (t : List ℕ) (pass : check_verdict words t ≡ Pass) where
+module _ (words : ℕ) (t : List ℕ) (pass : check_verdict words t ≡ Ok tt) where
   abbrev d : Netlist
   d = decoded t
 
@@ -94,32 +93,32 @@ module _ (words : ℕ) (t : List ℕ) (pass : check_verdict words t ≡ Pass) wh
 
 -- ---- the last stage
 module _ (reply bytes : List ℕ) (h : length bytes ≤ length reply) where
-  enough : first_of (room reply bytes ∷ []) ≡ Pass
+  enough : first_of (room reply bytes ∷ []) ≡ Ok tt
   enough = first_passes (room reply bytes) [] (le-ltb (length reply) (length bytes) h) ∙ no-stage
 
   pub room-enough : Other (first_of (room reply bytes ∷ []))
   room-enough = subst Other (sym enough) tt
 
 -- ---- a verdict that is not 12, in the call's answer
-written-other : (v : Verdict) (n : ℕ) → Other v → NotShort (written_figures (written_by v n))
-written-other Pass n o e = absurd (omega (arith, e))
-written-other (Refused r) n o e = absurd (omega (arith, o, e))
+written-other : (v : Verdict) (n : ℕ) → Other v → NotShort (written_figures (answer_by v n))
+written-other (Ok u) n o e = absurd (omega (arith, e))
+written-other (Err r) n o e = absurd (omega (arith, o, e))
 
-merged-other : (v : Verdict) (n : ℕ) (b : Bool) → Other v → NotShort (merged_figures (merged_by v n b))
-merged-other Pass n b o e = absurd (omega (arith, e))
-merged-other (Refused r) n b o e = absurd (omega (arith, o, e))
+merged-other : (v : Verdict) (n : ℕ) (b : Bool) → Other v → NotShort (merged_figures (answer_by v (merged_of n b)))
+merged-other (Ok u) n b o e = absurd (omega (arith, e))
+merged-other (Err r) n b o e = absurd (omega (arith, o, e))
 
 module _ (words : ℕ) (t reply : List ℕ) where
   -- a call that checks the ticket, then asks for room
-  checked-room : (bytes : List ℕ) → (check_verdict words t ≡ Pass → length bytes ≤ length reply) → Other (first_of (check_stages words t ++ (room reply bytes ∷ [])))
+  checked-room : (bytes : List ℕ) → (check_verdict words t ≡ Ok tt → length bytes ≤ length reply) → Other (first_of (check_stages words t ++ (room reply bytes ∷ [])))
   unfolding check_verdict
   checked-room bytes h = early-then (check_stages words t) (room reply bytes ∷ []) (check-early words t) (λ p. room-enough reply bytes (h p))
 
-  compact-other : (check_verdict words t ≡ Pass → length (compact_bytes t) ≤ length reply) → NotShort (written_figures (compact_answer words t reply))
+  compact-other : (check_verdict words t ≡ Ok tt → length (compact_bytes t) ≤ length reply) → NotShort (written_figures (compact_answer words t reply))
   unfolding compact_answer compact_verdict
   compact-other h = written-other (compact_verdict words t reply) (length (compact_bytes t)) (checked-room (compact_bytes t) h)
 
-  merge-other : (check_verdict words t ≡ Pass → length (merge_bytes t) ≤ length reply) → NotShort (merged_figures (merge_answer words t reply))
+  merge-other : (check_verdict words t ≡ Ok tt → length (merge_bytes t) ≤ length reply) → NotShort (merged_figures (merge_answer words t reply))
   unfolding merge_answer merge_verdict
   merge-other h = merged-other (merge_verdict words t reply) (length (merge_bytes t)) (merge (decoded t)).1 (checked-room (merge_bytes t) h)
 
@@ -141,14 +140,14 @@ module _ (words : ℕ) (t reply : List ℕ) where
       go true e = subst Other (sym (first-refuses full (last ∷ []) e)) (omega arith)
       go false e = subst Other (sym (first_passes full (last ∷ []) e)) (room-enough reply (rewrite_bytes find_new_cell t) (h (ltb-false 1024 slots e)))
 
-  rewrite-other : (check_verdict words t ≡ Pass → slots ≤ 1024 → length (rewrite_bytes find_new_cell t) ≤ length reply)
+  rewrite-other : (check_verdict words t ≡ Ok tt → slots ≤ 1024 → length (rewrite_bytes find_new_cell t) ≤ length reply)
       → NotShort (written_figures (rewrite_answer find_new_cell words t reply))
   unfolding rewrite_answer rewrite_verdict check_verdict
   rewrite-other h =
       written-other (rewrite_verdict find_new_cell words t reply) (length (rewrite_bytes find_new_cell t))
       (early-then (check_stages words t) (rewrite_stages find_new_cell t reply) (check-early words t) (λ p. rewrite-room (h p)))
 
-  levels-other : (stimulus : List ℕ) → (check_verdict words t ≡ Pass → length (level_bytes t stimulus) ≤ length reply)
+  levels-other : (stimulus : List ℕ) → (check_verdict words t ≡ Ok tt → length (level_bytes t stimulus) ≤ length reply)
       → NotShort (written_figures (level_answer words t stimulus reply))
   unfolding level_answer level_verdict check_verdict
   levels-other stimulus h =

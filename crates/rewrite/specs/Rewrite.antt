@@ -1,19 +1,17 @@
 -- Rewriting (netlist/src/rewrite.rs). Assumes nothing: these are definitions.
-use Rattle.std.specs.Prelude.{cond, List, [], ◌∷◌, ◌++◌, ℕ, zero, suc, ◌-◌, length, replicate}
+use Rattle.std.specs.Prelude.{cond, List, [], ◌∷◌, ◌++◌, ℕ, zero, suc, ◌-◌, length, replicate, None, Some}
 use Rattle.value.specs.declared.Net.{Net}
 use Rattle.cell.specs.declared.Cell.{Cell}
 use Rattle.cell.specs.declared.Cell.TheVariants.{Not}
 use Rattle.netlist.specs.Shape.{visit_mut, has_effects, is_splittable}
 use Rattle.netlist.specs.Netlist.{Netlist, cell_in}
 use Rattle.order.specs.Orders.{topo_sort}
-use Rattle.numberer.specs.declared.Found.{Found}
-use Rattle.numberer.specs.declared.Found.TheVariants.{Nothing, At}
+use Rattle.std.specs.Prelude.{Option, Some}
 use Rattle.design.specs.Queue.{net_in, map_net_new, replace_cell, replace_net, applied}
 use Rattle.numberer.specs.Numberer.{seek}
 use Rattle.compact.specs.Compact.{compact}
-use Rattle.normalize.specs.declared.Outcome.{Outcome}
-use Rattle.normalize.specs.declared.Outcome.TheVariants.{None, Value, Form, Add, NotOf, AddNotOf}
-use Rattle.normalize.specs.Outcomes.{◌or_else◌}
+use Rattle.normalize.specs.declared.Change.TheVariants.{Value, Form, Add, NotOf, AddNotOf}
+use Rattle.normalize.specs.Outcomes.{◌or_else◌, Outcome}
 use Rattle.normalize.specs.Normalize.{normalize}
 use Rattle.aig.specs.Aig.{simple_aig_opt}
 use Rattle.rewrite.specs.Rewriter.{Rewriter, begun, Lookup, find_cell, entered, finished, weight}
@@ -49,11 +47,11 @@ add_not adder (unadded r) = spent r
 
 abbrev pub perform : (Rewriter → Cell → Added) → Rewriter → Outcome → Result
 perform adder r None = none r
-perform adder r (Value n) = value n r
-perform adder r (Form c) = cell c r
-perform adder r (Add c) = as_value (adder r c)
-perform adder r (NotOf c) = as_not (adder r c)
-perform adder r (AddNotOf c) = add_not adder (adder r c)
+perform adder r (Some (Value n)) = value n r
+perform adder r (Some (Form c)) = cell c r
+perform adder r (Some (Add c)) = as_value (adder r c)
+perform adder r (Some (NotOf c)) = as_not (adder r c)
+perform adder r (Some (AddNotOf c)) = add_not adder (adder r c)
 
 -- `Rewriter::add_cell_meta_output` after `process_cell`: its cells are gates, so they are cached
 abbrev pub entry : Rewriter → Cell → Added
@@ -66,9 +64,9 @@ enter c (value n r) = at n r
 enter c (spent r) = unadded r
 
 -- `Rewriter::process_cell` after its loop: the cache is asked
-abbrev pub asked : Rewriter → Found → Result
-asked r (At n) = value n r
-asked r Nothing = none r
+abbrev pub asked : Rewriter → Option Net → Result
+asked r (Some n) = value n r
+asked r None = none r
 
 -- what is left of a replacement cell is that cell
 abbrev pub replacing : Cell → Result → Result

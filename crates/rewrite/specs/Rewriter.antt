@@ -1,14 +1,12 @@
 -- The state of the rewriter (netlist/src/rewrite.rs, `Rewriter`), with processing stamps beside. Assumes nothing: these are definitions.
-use Rattle.std.specs.Prelude.{Bool, cond, List, [], ◌∷◌, ◌++◌, ℕ, suc, ◌+◌, ◌*◌, eqb, length, get_or, set, replicate}
+use Rattle.std.specs.Prelude.{Bool, cond, List, [], ◌∷◌, ◌++◌, ℕ, suc, ◌+◌, ◌*◌, eqb, length, get_or, set, replicate, None}
 use Rattle.value.specs.declared.Net.{Net}
 use Rattle.value.specs.declared.Driver.{Driver}
 use Rattle.value.specs.declared.Driver.TheVariants as driven
 use Rattle.value.specs.Value.{driver, net, le_net, le_control}
 use Rattle.cell.specs.declared.Cell.{Cell}
 use Rattle.cell.specs.declared.Cell.TheVariants.{Input, Output, Buf, Not, And, Or, Xor, Mux, Aig}
-use Rattle.design.specs.declared.Source.{Source}
-use Rattle.design.specs.declared.Source.TheVariants.{Opaque}
-use Rattle.design.specs.Queue.{Design, unchanged, add_cell}
+use Rattle.design.specs.Queue.{Design, unchanged, add_cell, Source}
 use Rattle.numberer.specs.Numberer.{Entry}
 
 -- `design`, `cache`, and for `processed` a stamp by slot: 0 is not processed, and a net that is processed later has a higher one. The clock
@@ -37,7 +35,7 @@ Lookup = Design → Net → Source
 
 -- `Rewriter::find_cell`
 unfoldable pub find_cell : Lookup → Rewriter → Net → Source
-find_cell look r n = cond (eqb (stamp r.stamps n) 0) Opaque (look r.design n)
+find_cell look r n = cond (eqb (stamp r.stamps n) 0) None (look r.design n)
 
 -- a cell is added in the next slot, with `cache.insert` and `processed.insert`
 unfoldable pub entered : Rewriter → Cell → Net → Rewriter

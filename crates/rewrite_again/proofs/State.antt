@@ -19,13 +19,11 @@ use Rattle.netlist.specs.Shape.{visit_mut, visit, has_effects}
 use Rattle.netlist.specs.Netlist.{Netlist, cell_in}
 use Rattle.basics.specs.Lists.{those, has, All}
 use Rattle.order.specs.Orders.{topo_sort}
-use Rattle.design.specs.declared.Source.TheVariants.{Opaque, Known}
-use Rattle.numberer.specs.declared.Found.{Found}
-use Rattle.numberer.specs.declared.Found.TheVariants.{Nothing, At}
+use Rattle.std.specs.Prelude.{None, Some, Option}
 use Rattle.numberer.specs.Numberer.{Entry, seek}
 use Rattle.design.specs.Queue.{net_in, driven_to, map_net_new, source_in, find_new_cell}
-use Rattle.normalize.specs.declared.Outcome.{Outcome}
-use Rattle.normalize.specs.declared.Outcome.TheVariants.{None, Value, Form, Add, NotOf, AddNotOf}
+use Rattle.normalize.specs.Outcomes.{Outcome}
+use Rattle.normalize.specs.declared.Change.TheVariants.{Value, Form, Add, NotOf, AddNotOf}
 use Rattle.aig.specs.Aig.{simple_aig_opt}
 use Rattle.rewrite.specs.Rewriter.{Rewriter, stamp, find_cell}
 use Rattle.order_laws.proofs.Bits.{topo_sort-each}
@@ -43,11 +41,7 @@ use Rattle.rewrite_again.proofs.Origin.{splits, made, origin, origin-old, inside
 
 fires-none : (o : Outcome) → fires o ≡ false → o ≡ None
 fires-none None e = refl
-fires-none (Value n) e = absurd (true≢false e)
-fires-none (Form c) e = absurd (true≢false e)
-fires-none (Add c) e = absurd (true≢false e)
-fires-none (NotOf c) e = absurd (true≢false e)
-fires-none (AddNotOf c) e = absurd (true≢false e)
+fires-none (Some c) e = absurd (true≢false e)
 
 module _ (d : Netlist) (rank : ℕ → ℕ) (normal : Normal d rank) where
   abbrev pub cs : List Cell
@@ -126,11 +120,11 @@ module _ (d : Netlist) (rank : ℕ → ℕ) (normal : Normal d rank) where
         ∙ visit-same (λ n. g (map_net_new rs n)) g c (all-every (λ n. g (map_net_new rs n) ≡ g n) mapped-same (visit c))
 
     -- what is looked up is a cell of the netlist
-    look-slot : (n : Net) (c : Cell) → find_new_cell r.design n ≡ Known c → is_ruled c ≡ true → Carried g c (look_in cs (g n))
+    look-slot : (n : Net) (c : Cell) → find_new_cell r.design n ≡ Some c → is_ruled c ≡ true → Carried g c (look_in cs (g n))
     unfolding find_new_cell
     look-slot n c e h = go (driver (map_net_new rs n)) refl e
       where
-        go : (y : Driver) → driver (map_net_new rs n) ≡ y → source_in r.design.cells y ≡ Known c → Carried g c (look_in cs (g n))
+        go : (y : Driver) → driver (map_net_new rs n) ≡ y → source_in r.design.cells y ≡ Some c → Carried g c (look_in cs (g n))
         go (driven.Const t) q f = let z : ◌≡◌ {A = ℕ} 0 1 = cc in absurd (omega arith)
         go (driven.Cell x) q f =
             let is : cell_in r.design.cells x.0 ≡ c = cc in
@@ -146,7 +140,7 @@ module _ (d : Netlist) (rank : ℕ → ℕ) (normal : Normal d rank) where
     unfolding find_cell
     follows = record { fixes = back-fixes cs few; known = λ n c e h. go n c (eqb (stamp r.stamps n) 0) e h }
       where
-        go : (n : Net) (c : Cell) (b : Bool) → cond b Opaque (find_new_cell r.design n) ≡ Known c → is_ruled c ≡ true → Carried g c (look_in cs (g n))
+        go : (n : Net) (c : Cell) (b : Bool) → cond b None (find_new_cell r.design n) ≡ Some c → is_ruled c ≡ true → Carried g c (look_in cs (g n))
         go n c true e h = let z : ◌≡◌ {A = ℕ} 0 1 = cc in absurd (omega arith)
         go n c false e h = look-slot n c e h
 
@@ -159,12 +153,12 @@ module _ (d : Netlist) (rank : ℕ → ℕ) (normal : Normal d rank) where
           (still-follows g (find_cell find_new_cell r) (look_in cs) follows c (cell_in cs s) a (normal.still s small).still)
 
       -- and the cache does not know it
-      pub unknown : (c : Cell) → Alike (visit_mut g c) (cell_in cs s) → seek r.cache c ≡ Nothing
+      pub unknown : (c : Cell) → Alike (visit_mut g c) (cell_in cs s) → seek r.cache c ≡ None
       unknown c a = go (seek r.cache c) refl
         where
-          go : (f : Found) → seek r.cache c ≡ f → f ≡ Nothing
-          go Nothing e = refl
-          go (At n) e =
+          go : (f : Option Net) → seek r.cache c ≡ f → f ≡ None
+          go None e = refl
+          go (Some n) e =
               let k : Cached before c = seek_finds (λ c n. Cached before c) r.cache c n st.known e in
               let same : k.slot ≡ s =
               normal.distinct k.slot s k.inside small k.gate (alike_both (visit_mut g c) (cell_in cs k.slot) (cell_in cs s) k.alike a) in

@@ -8,13 +8,12 @@ use native.Mathlib.Omega.{arith}
 use lib.Dec.{eqb, ltb}
 use lib.ListN.{length, get_or, take, drop}
 use borrow.Author.Tests.{ltb-false}
+use Rattle.std.specs.Prelude.{Ok}
 use Rattle.logic.specs.Levels.{byte_of}
 use Rattle.cell.specs.Records.{records_of}
 use Rattle.loops.proofs.Rank.{rank}
-use Rattle.refusals.specs.declared.Verdict.{Verdict}
-use Rattle.refusals.specs.declared.Verdict.TheVariants.{Pass}
 use Rattle.refusals.specs.declared.Refusal.TheVariants.{LevelCount, LevelValue, ShortReply}
-use Rattle.refusals.specs.Refusals.{Stage, first_of, slot_by_slot}
+use Rattle.refusals.specs.Refusals.{Stage, first_of, slot_by_slot, Verdict}
 use Rattle.checking.specs.Checking.{check_stages}
 use Rattle.refusals.proofs.Stages.{later-decides, passes-both, passed-exactly}
 use Rattle.netlist.specs.Netlist.{Netlist, netlist_of}
@@ -23,15 +22,15 @@ use Rattle.design.specs.Queue.{applied, find_new_cell}
 use Rattle.rewrite.specs.Rewriter.{Lookup}
 use Rattle.rewrite.specs.Rewrite.{slots_of}
 use Rattle.levels.specs.Evaluate.{input_slots, output_levels}
-use Rattle.calls.specs.declared.Written.TheVariants as written
-use Rattle.calls.specs.Answers.{written_by}
+use Rattle.calls.specs.Answers.{answer_by}
 use Rattle.calls.specs.Calls.{decoded, room, check_verdict, rewrite_run, rewrite_bytes, rewrite_stages, rewrite_verdict, rewrite_answer, rewrite_reply, level_bytes, stimulus_stages, level_verdict, level_answer, level_reply}
 use Rattle.order_laws.specs.Ordered.{FedAfter}
 use Rattle.accepted_laws.proofs.Accepted.{accepted-wired, accepted-fed}
 use Rattle.kept.specs.Kept.{Bytes}
 use Rattle.kept.proofs.Sound.{Sound}
 use Rattle.kept.proofs.Tickets.{ticket-sound, ticket-passes}
-use Rattle.kept.proofs.Calls.{written-first, written-later, written_count}
+use Rattle.kept.proofs.Calls.{written-first, written-later}
+use Rattle.calls.proofs.Answers.{answered}
 use Rattle.rewrite_sound.specs.Rewritten.{Rewritten}
 use Rattle.rewrite_sound.proofs.Operands.{rank as rank-of}
 use Rattle.rewrite_sound.proofs.Result.{Ran, before-sound, rewrite-inputs, rewrite-levels}
@@ -41,16 +40,16 @@ use Rattle.rewrite_kept.proofs.Runs.{Looks, rust-looks}
 use Rattle.rewrite_kept.proofs.Outputs.{applied-keeps}
 
 -- as many inputs, and levels kept: the call `levels` answers alike, and keeps what is definite
-module _ (words : ℕ) (t u : List ℕ) (pass : check_verdict words t ≡ Pass) (inputs : length (input_slots (decoded u).cells) ≡ length (input_slots (decoded t).cells))
+module _ (words : ℕ) (t u : List ℕ) (pass : check_verdict words t ≡ Ok tt) (inputs : length (input_slots (decoded u).cells) ≡ length (input_slots (decoded t).cells))
     (levels : (stimulus : List ℕ) → Definite (level_bytes t stimulus) (level_bytes u stimulus)) where
-  module _ (pass' : check_verdict words u ≡ Pass) (stimulus reply : List ℕ) where
+  module _ (pass' : check_verdict words u ≡ Ok tt) (stimulus reply : List ℕ) where
     same-verdict : level_verdict words u stimulus reply ≡ level_verdict words t stimulus reply
     unfolding level_verdict check_verdict stimulus_stages
     same-verdict =
         let rest : ℕ → ℕ → List Stage =
         λ i k. ((not (eqb (length stimulus) i), LevelCount) ∷ slot_by_slot (λ j. (ltb 2 (get_or stimulus j 0), LevelValue j) ∷ []) (length stimulus))
         ++ ((ltb (length reply) k, ShortReply) ∷ []) in
-        let past : (w : List ℕ) → check_verdict words w ≡ Pass
+        let past : (w : List ℕ) → check_verdict words w ≡ Ok tt
         → level_verdict words w stimulus reply ≡ first_of (rest (length (input_slots (decoded w).cells)) (length (level_bytes w stimulus))) =
         λ w e. ap first_of (append_assoc (check_stages words w) (stimulus_stages (decoded w).cells stimulus) (room reply (level_bytes w stimulus) ∷ []))
         ∙ later-decides (check_stages words w) (stimulus_stages (decoded w).cells stimulus ++ (room reply (level_bytes w stimulus) ∷ [])) e in
@@ -58,15 +57,15 @@ module _ (words : ℕ) (t u : List ℕ) (pass : check_verdict words t ≡ Pass) 
 
     same_answer : level_answer words u stimulus reply ≡ level_answer words t stimulus reply
     unfolding level_answer
-    same_answer = ap₂ written_by same-verdict (levels stimulus).long
+    same_answer = ap₂ answer_by same-verdict (levels stimulus).long
 
     -- where the call answers with a count
-    module _ (n : ℕ) (answer : level_answer words t stimulus reply ≡ written.Accepted n) where
-      counted : (level_verdict words t stimulus reply ≡ Pass) × (n ≡ length (level_bytes t stimulus))
+    module _ (n : ℕ) (answer : level_answer words t stimulus reply ≡ Ok n) where
+      counted : (level_verdict words t stimulus reply ≡ Ok tt) × (n ≡ length (level_bytes t stimulus))
       unfolding level_answer
-      counted = written_count (level_verdict words t stimulus reply) (length (level_bytes t stimulus)) n answer
+      counted = answered (level_verdict words t stimulus reply) (length (level_bytes t stimulus)) n answer
 
-      passes : level_verdict words u stimulus reply ≡ Pass
+      passes : level_verdict words u stimulus reply ≡ Ok tt
       passes = same-verdict ∙ counted.0
 
       count-is : n ≡ length (level_bytes u stimulus)
@@ -85,7 +84,7 @@ module _ (words : ℕ) (t u : List ℕ) (pass : check_verdict words t ≡ Pass) 
           written-later (level_verdict words u stimulus reply) reply (level_bytes u stimulus) n passes count-is
           ∙ sym (written-later (level_verdict words t stimulus reply) reply (level_bytes t stimulus) n counted.0 counted.1)
 
-  kept_by : (length u / 16 ≤ 512 → check_verdict words u ≡ Pass) → KeptDefinite words t u
+  kept_by : (length u / 16 ≤ 512 → check_verdict words u ≡ Ok tt) → KeptDefinite words t u
   kept_by accepted = record {
     levels = levels;
     answers = λ l stimulus reply. same_answer (accepted (omega arith)) stimulus reply;
@@ -94,7 +93,7 @@ module _ (words : ℕ) (t u : List ℕ) (pass : check_verdict words t ≡ Pass) 
   }
 
 -- an accepted ticket
-module _ (words : ℕ) (t : List ℕ) (pass : check_verdict words t ≡ Pass) where
+module _ (words : ℕ) (t : List ℕ) (pass : check_verdict words t ≡ Ok tt) where
   ticket-fed : FedAfter (length (decoded t).cells) (bit_deps (decoded t).cells) [] (topo_sort (decoded t).cells)
   unfolding netlist_of
   ticket-fed = accepted-fed (records_of t) (ticket-passes words t pass)
@@ -134,23 +133,23 @@ module _ (words : ℕ) (t : List ℕ) (pass : check_verdict words t ≡ Pass) wh
           (applied-keeps look d.cells looks ticket-fed ranks sound.ranked x (rank-of x.last) (before-sound look d ranks sound x).ranked stimulus)
 
 -- over the definition of the result, with the Rust's look-up
-pub rewrite-keeps : (words : ℕ) (t : List ℕ) → Bytes t → check_verdict words t ≡ Pass → slots_of (rewrite_run find_new_cell t) ≤ 1024
+pub rewrite-keeps : (words : ℕ) (t : List ℕ) → Bytes t → check_verdict words t ≡ Ok tt → slots_of (rewrite_run find_new_cell t) ≤ 1024
     → KeptDefinite words t (rewrite_bytes find_new_cell t)
 rewrite-keeps words t bytes pass few =
     rewritten-kept words t pass find_new_cell (ticket-looks words t pass) (rust-runs words t pass) few (rewrite_bytes find_new_cell t) (rewrite-gives words t bytes pass few)
 
 -- over the call: where it answers with a count, that many bytes of the reply are such a ticket
-module _ (look : Lookup) (words : ℕ) (t reply : List ℕ) (runs : check_verdict words t ≡ Pass → RunsOn look t) (looks : check_verdict words t ≡ Pass → Looks look (decoded t).cells) where
-  pub rewrite-call-kept : (n : ℕ) → Bytes t → rewrite_answer look words t reply ≡ written.Accepted n → KeptDefinite words t (take n (rewrite_reply look words t reply))
+module _ (look : Lookup) (words : ℕ) (t reply : List ℕ) (runs : check_verdict words t ≡ Ok tt → RunsOn look t) (looks : check_verdict words t ≡ Ok tt → Looks look (decoded t).cells) where
+  pub rewrite-call-kept : (n : ℕ) → Bytes t → rewrite_answer look words t reply ≡ Ok n → KeptDefinite words t (take n (rewrite_reply look words t reply))
   unfolding rewrite_answer rewrite_verdict rewrite_stages check_verdict
   rewrite-call-kept n bytes e =
       let v : Verdict = rewrite_verdict look words t reply in
-      let a = written_count v (length (rewrite_bytes look t)) n e in
+      let a = answered v (length (rewrite_bytes look t)) n e in
       let stages = passes-both (check_stages words t) (rewrite_stages look t reply) a.0 in
       let few : slots_of (rewrite_run look t) ≤ 1024 = ltb-false 1024 (slots_of (rewrite_run look t)) ((passed-exactly (rewrite_stages look t reply)).0 stages.1 0 (omega arith)) in
       rewritten-kept words t stages.0 look (looks stages.0) (runs stages.0) few (take n (rewrite_reply look words t reply))
       (rewrite-call-by look words t reply runs n bytes e)
 
-pub rewrite-call : (words : ℕ) (t reply : List ℕ) (n : ℕ) → Bytes t → rewrite_answer find_new_cell words t reply ≡ written.Accepted n
+pub rewrite-call : (words : ℕ) (t reply : List ℕ) (n : ℕ) → Bytes t → rewrite_answer find_new_cell words t reply ≡ Ok n
     → KeptDefinite words t (take n (rewrite_reply find_new_cell words t reply))
 rewrite-call words t reply = rewrite-call-kept find_new_cell words t reply (rust-runs words t) (ticket-looks words t)

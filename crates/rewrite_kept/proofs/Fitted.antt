@@ -22,7 +22,7 @@ use Rattle.cell.specs.declared.Cell.{Cell}
 use Rattle.cell.specs.declared.Cell.TheVariants.{Input}
 use Rattle.netlist.specs.Shape.{comb_reads, visit_mut, is_source}
 use Rattle.netlist.specs.Netlist.{cell_in}
-use Rattle.design.specs.declared.Source.TheVariants.{Opaque}
+use Rattle.std.specs.Prelude.{None}
 use Rattle.design.specs.Queue.{Design, net_in, driven_to, map_net_new, source_in, find_new_cell}
 use Rattle.numberer.specs.Numberer.{Entry}
 use Rattle.rewrite.specs.Rewriter.{Rewriter, stamp, find_cell, entered, finished}
@@ -150,6 +150,6 @@ module _ (v : Net → Trit) where
       unfolding find_cell
       found-fits n = go (eqb (stamp r.stamps n) 0) refl
         where
-          go : (b : Bool) → eqb (stamp r.stamps n) 0 ≡ b → SourceFits v n (cond b Opaque (find_new_cell r.design n))
+          go : (b : Bool) → eqb (stamp r.stamps n) 0 ≡ b → SourceFits v n (cond b None (find_new_cell r.design n))
           go true e = tt
           go false e = new-cell-fits n (stamped-settled cs₀ r inv n (omega (arith, eqb-false (stamp r.stamps n) 0 e)))

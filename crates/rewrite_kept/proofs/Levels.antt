@@ -11,8 +11,8 @@ use Rattle.value.specs.declared.ControlNet.TheVariants.{Pos, Neg}
 use Rattle.value.specs.Value.{ZERO, ONE, from_trit, net, from_net_invert, is_positive, is_negative, is_always, not_control}
 use Rattle.value.proofs.Laws.{net-test, net-cases, driver-const, not_neg, not-const, not-cell}
 use Rattle.cell.specs.declared.Cell.TheVariants.{Not}
-use Rattle.design.specs.declared.Source.{Source}
-use Rattle.design.specs.declared.Source.TheVariants.{Known}
+use Rattle.std.specs.Prelude.{Some}
+use Rattle.design.specs.Queue.{Source}
 use Rattle.normalize.specs.Outcomes.{from_control}
 use Rattle.aig.specs.Aig.{xor_of}
 use Rattle.aig_laws.specs.Arms.{HasAig, HasXor, as_is, turned}
@@ -48,7 +48,7 @@ module _ (v : Net → Trit) where
 
   -- a net for which a cell was looked up
   module _ (n : Net) (src : Source) (fits : SourceFits v n src) where
-    pub looked-not : (w : Net) → src ≡ Known (Not w) → v n ≡ not_level (v w)
+    pub looked-not : (w : Net) → src ≡ Some (Not w) → v n ≡ not_level (v w)
     unfolding cell_value
     looked-not w e = subst (SourceFits v n) e fits
 
@@ -73,7 +73,7 @@ module _ (v : Net → Trit) where
   looked-nand (Pos n) src f p q h s = absurd (false≢true s)
   looked-nand (Neg n) src f p q h s = ap not_level (looked-aig n src f p q h)
 
-  pub without_not : (a : ControlNet) (src : Source) → SourceFits v (net a) src → (w : Net) → src ≡ Known (Not w)
+  pub without_not : (a : ControlNet) (src : Source) → SourceFits v (net a) src → (w : Net) → src ≡ Some (Not w)
       → level (from_net_invert w (not (is_negative a))) ≡ level a
   without_not (Pos n) src f w e = sym (looked-not n src f w e)
   without_not (Neg n) src f w e = sym (not_not (v w)) ∙ sym (ap not_level (looked-not n src f w e))

@@ -10,12 +10,12 @@ use Rattle.logic.proofs.Laws.{refines-refl, refines-trans, not-monotone}
 use Rattle.value.specs.declared.Net.{Net}
 use Rattle.cell.specs.declared.Cell.{Cell}
 use Rattle.cell.specs.declared.Cell.TheVariants.{Not}
-use Rattle.numberer.specs.declared.Found.{Found}
-use Rattle.numberer.specs.declared.Found.TheVariants.{Nothing, At}
+use Rattle.std.proofs.Common.{Option, Some}
 use Rattle.design.specs.Queue.{net_in}
 use Rattle.numberer.specs.Numberer.{seek}
-use Rattle.normalize.specs.declared.Outcome.{Outcome}
-use Rattle.normalize.specs.declared.Outcome.TheVariants.{None, Value, Form, Add, NotOf, AddNotOf}
+use Rattle.std.specs.Prelude.{None, Some}
+use Rattle.normalize.specs.Outcomes.{Outcome}
+use Rattle.normalize.specs.declared.Change.TheVariants.{Value, Form, Add, NotOf, AddNotOf}
 use Rattle.rewrite.specs.Rewriter.{Rewriter, Lookup, entered}
 use Rattle.rewrite.specs.Rewrite.{rules, Result, none, cell, value, spent, Added, at, unadded, as_value, as_not, add_not, perform, enter, asked, replacing, go_on, process, process_cell, add_cell}
 use Rattle.aig_laws.specs.Reads.{GoodOutcome}
@@ -26,7 +26,7 @@ use Rattle.rewrite_kept.specs.Outcomes.{gate_level, Refining}
 -- P, Q, N are what processing keeps (`Keeps`). The rules refine, the cache answers with nets of the right level, and F goes back over an entry
 pub record Fitting (look : Lookup) (P : Rewriter → Type 0) (Q : Rewriter → Cell → Type 0) (v : Net → Trit) (F : Rewriter → Type 0) : Type 0 where
   pub plan : (r : Rewriter) (c : Cell) → P r → F r → Refining v (gate_level v c) (rules look r c)
-  pub cached : (r : Rewriter) (c : Cell) (n : Net) → P r → F r → seek r.cache c ≡ At n → v n ≡ gate_level v c
+  pub cached : (r : Rewriter) (c : Cell) (n : Net) → P r → F r → seek r.cache c ≡ Some n → v n ≡ gate_level v c
   pub back : (r : Rewriter) (c : Cell) → P r → Q r c → F (entered r c (net_in (length r.design.cells))) → F r × (v (net_in (length r.design.cells)) ≡ gate_level v c)
 
 module _ (look : Lookup) (P : Rewriter → Type 0) (Q : Rewriter → Cell → Type 0) (N : Rewriter → Net → Type 0) (keeps : Keeps look P Q N)
@@ -102,15 +102,15 @@ module _ (look : Lookup) (P : Rewriter → Type 0) (Q : Rewriter → Cell → Ty
     perform-leads : (r : Rewriter) (c : Cell) (o : Outcome) → P r → Q r c → GoodOutcome (Q r) (N r) o → (F r → Refining v (gate_level v c) o)
         → LeadsPass r (gate_level v c) c (perform adder r o)
     perform-leads r c None p q g h = (p, here r (gate_level v c))
-    perform-leads r c (Value n) p q g h = λ f. (f, h f)
-    perform-leads r c (Form d) p q g h = (p, g, λ f. (f, h f))
-    perform-leads r c (Add d) p q g h = value-leads r r (gate_level v c) (gate_level v d) c (adder r d) (λ f. (f, h f)) (leads r d p g)
-    perform-leads r c (NotOf d) p q g h = inverse-leads r r (gate_level v c) (gate_level v d) c (adder r d) (kept r d p g) (λ f. (f, h f)) (leads r d p g)
-    perform-leads r c (AddNotOf d) p q g h = both-leads r r (gate_level v c) (gate_level v d) c (adder r d) (kept r d p g) (λ f. (f, h f)) (leads r d p g)
+    perform-leads r c (Some (Value n)) p q g h = λ f. (f, h f)
+    perform-leads r c (Some (Form d)) p q g h = (p, g, λ f. (f, h f))
+    perform-leads r c (Some (Add d)) p q g h = value-leads r r (gate_level v c) (gate_level v d) c (adder r d) (λ f. (f, h f)) (leads r d p g)
+    perform-leads r c (Some (NotOf d)) p q g h = inverse-leads r r (gate_level v c) (gate_level v d) c (adder r d) (kept r d p g) (λ f. (f, h f)) (leads r d p g)
+    perform-leads r c (Some (AddNotOf d)) p q g h = both-leads r r (gate_level v c) (gate_level v d) c (adder r d) (kept r d p g) (λ f. (f, h f)) (leads r d p g)
 
-  asked-leads : (r₀ r : Rewriter) (x : Trit) (c : Cell) (y : Found) → P r → seek r.cache c ≡ y → Leads r₀ x r (gate_level v c) → LeadsResult r₀ x c (asked r y)
-  asked-leads r₀ r x c (At n) p s g = λ f. ((g f).0, subst (λ (z : Trit). Refines z x) (sym (fitting.cached r c n p f s)) (g f).1)
-  asked-leads r₀ r x c Nothing p s g = g
+  asked-leads : (r₀ r : Rewriter) (x : Trit) (c : Cell) (y : Option Net) → P r → seek r.cache c ≡ y → Leads r₀ x r (gate_level v c) → LeadsResult r₀ x c (asked r y)
+  asked-leads r₀ r x c (Some n) p s g = λ f. ((g f).0, subst (λ (z : Trit). Refines z x) (sym (fitting.cached r c n p f s)) (g f).1)
+  asked-leads r₀ r x c None p s g = g
 
   replacing-leads : (r₀ r : Rewriter) (x : Trit) (c d : Cell) (y : Result) → Leads r₀ x r (gate_level v d) → LeadsResult r (gate_level v d) d y
       → LeadsResult r₀ x c (replacing d y)

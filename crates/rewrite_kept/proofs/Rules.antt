@@ -11,10 +11,10 @@ use Rattle.value.specs.declared.ControlNet.{ControlNet}
 use Rattle.value.specs.Value.{le_net, le_control, net, from_net_invert, is_negative, not_control}
 use Rattle.cell.specs.declared.Cell.{Cell}
 use Rattle.cell.specs.declared.Cell.TheVariants.{Input, Output, Buf, Not, And, Or, Xor, Mux, Aig}
-use Rattle.design.specs.declared.Source.{Source}
-use Rattle.normalize.specs.declared.Outcome.{Outcome}
-use Rattle.normalize.specs.declared.Outcome.TheVariants.{Form}
-use Rattle.normalize.specs.Outcomes.{given}
+use Rattle.std.specs.Prelude.{Some}
+use Rattle.design.specs.Queue.{Source}
+use Rattle.normalize.specs.declared.Change.TheVariants.{Form}
+use Rattle.normalize.specs.Outcomes.{given, Outcome}
 use Rattle.normalize.specs.Normalize.{normalize}
 use Rattle.aig.specs.Aig.{differ, not_rule, aig_order, aig_rule, xor_order, xor_rule, simple_aig_opt}
 use Rattle.rewrite.specs.Rewriter.{Rewriter, Lookup, find_cell}
@@ -68,7 +68,7 @@ module _ (v : Net → Trit) (consts : Constants v) where
     on-net n p t = level-signed v p ∙ ap (λ m. signed (is_negative p) (v m)) (sym t)
 
     -- an and-inverter with a new first operand
-    with_first : (p : ControlNet) (x : Trit) → level p ≡ x → outcome_level v old (Form (Aig p b)) ≡ and_level x (level b)
+    with_first : (p : ControlNet) (x : Trit) → level p ≡ x → outcome_level v old (Some (Form (Aig p b))) ≡ and_level x (level b)
     unfolding cell_value
     with_first p x e = ap (λ (y : Trit). and_level y (level b)) e
 
@@ -136,7 +136,7 @@ module _ (v : Net → Trit) (consts : Constants v) where
         rw e (table.xor_both (v a) (v b) (v aa) (v ab) (v ba) (v bb) (looked-xor v a src_a fa aa ab h) (looked-xor v b src_b fb ba bb k) (ap v t))
 
   -- `Normalize`, exactly
-  exchanged : (x : Trit) (test : Bool) (c : Cell) → gate_level v c ≡ x → outcome_level v x (given test (Form c)) ≡ x
+  exchanged : (x : Trit) (test : Bool) (c : Cell) → gate_level v c ≡ x → outcome_level v x (given test (Some (Form c))) ≡ x
   exchanged x true c e = e
   exchanged x false c e = refl
 

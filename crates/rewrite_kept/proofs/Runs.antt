@@ -17,7 +17,7 @@ use Rattle.cell.specs.declared.Cell.TheVariants.{Input}
 use Rattle.netlist.specs.Shape.{visit, visit_mut, has_effects}
 use Rattle.netlist.specs.Netlist.{cell_in}
 use Rattle.order.specs.Orders.{bit_deps, topo_sort}
-use Rattle.numberer.specs.declared.Found.TheVariants.{At}
+use Rattle.std.proofs.Common.{Some}
 use Rattle.design.specs.Queue.{Design, net_in, map_net_new, find_new_cell, replace_net, replace_cell}
 use Rattle.numberer.specs.Numberer.{Entry, seek}
 use Rattle.rewrite.specs.Rewriter.{Rewriter, Lookup, begun, find_cell, entered, finished}
@@ -62,14 +62,14 @@ rust-looks cs₀ wired = record {
 module _ (cs₀ : List Cell) (v : Net → Trit) (consts : Constants v) where
   -- what the cache answers has the level of the cell
   abbrev pub Cached : Rewriter → Type 0
-  Cached r = (c : Cell) (n : Net) → seek r.cache c ≡ At n → Fitted v r → v n ≡ gate_level v c
+  Cached r = (c : Cell) (n : Net) → seek r.cache c ≡ Some n → Fitted v r → v n ≡ gate_level v c
 
   -- one more entry
-  cached-snoc : (es : List Entry) (c : Cell) (n : Net) → v n ≡ gate_level v c → ((x : Cell) (m : Net) → seek es x ≡ At m → v m ≡ gate_level v x)
-      → (x : Cell) (m : Net) → seek (es ++ ((c, n) ∷ [])) x ≡ At m → v m ≡ gate_level v x
+  cached-snoc : (es : List Entry) (c : Cell) (n : Net) → v n ≡ gate_level v c → ((x : Cell) (m : Net) → seek es x ≡ Some m → v m ≡ gate_level v x)
+      → (x : Cell) (m : Net) → seek (es ++ ((c, n) ∷ [])) x ≡ Some m → v m ≡ gate_level v x
   cached-snoc es c n h old x m e = go (seek-snoc es (c, n) x m e)
     where
-      go : (seek es x ≡ At m) ⊎ ((c ≡ x) × (n ≡ m)) → v m ≡ gate_level v x
+      go : (seek es x ≡ Some m) ⊎ ((c ≡ x) × (n ≡ m)) → v m ≡ gate_level v x
       go (inl f) = old x m f
       go (inr f) = ap v (sym f.1) ∙ h ∙ ap (gate_level v) f.0
 

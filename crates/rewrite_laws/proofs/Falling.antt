@@ -13,10 +13,10 @@ use Rattle.value.specs.Value.{le_net, net, from_net_invert, is_negative, not_con
 use Rattle.value.proofs.Order.{net-order, control-order}
 use Rattle.cell.specs.declared.Cell.{Cell}
 use Rattle.cell.specs.declared.Cell.TheVariants.{Input, Output, Buf, Not, And, Or, Xor, Mux, Aig}
-use Rattle.design.specs.declared.Source.{Source}
-use Rattle.normalize.specs.declared.Outcome.{Outcome}
-use Rattle.normalize.specs.declared.Outcome.TheVariants.{Form, NotOf}
-use Rattle.normalize.specs.Outcomes.{given, from_control}
+use Rattle.std.specs.Prelude.{Some}
+use Rattle.design.specs.Queue.{Source}
+use Rattle.normalize.specs.declared.Change.TheVariants.{Form, NotOf}
+use Rattle.normalize.specs.Outcomes.{given, from_control, Outcome}
 use Rattle.normalize.specs.Normalize.{normalize}
 use Rattle.aig.specs.Aig.{differ, not_rule, xor_of, aig_order, aig_rule, xor_order, xor_rule, simple_aig_opt}
 use Rattle.rewrite.specs.Rewriter.{Rewriter, Lookup, rank, stamp, weight, find_cell}
@@ -53,17 +53,17 @@ module _ (ts : List ℕ) (a b : ControlNet) (src_a src_b : Source) (ha : SourceB
   und_x : (x y : Net) → HasXor src_a x y → (stamp ts x < stamp ts (net a)) × (stamp ts y < stamp ts (net a))
   und_x x y h = xor-source (λ n. stamp ts n < stamp ts (net a)) src_a x y ha h
 
-  substituted : (aa ab : ControlNet) → HasAig src_a aa ab → Less (Form (Aig (not_control ab) b))
+  substituted : (aa ab : ControlNet) → HasAig src_a aa ab → Less (Some (Form (Aig (not_control ab) b)))
   substituted aa ab h = aig-lighter ts m (not_control ab) b (omega (arith, und_a aa ab h, not-stamp ts ab))
 
-  inverted : (v : Net) (t : Bool) → stamp ts v < stamp ts (net a) → Less (Form (Aig (from_net_invert v t) b))
+  inverted : (v : Net) (t : Bool) → stamp ts v < stamp ts (net a) → Less (Some (Form (Aig (from_net_invert v t) b)))
   inverted v t l = aig-lighter ts m (from_net_invert v t) b (omega (arith, invert-stamp ts v t))
 
   xored : (aa ab : ControlNet) → stamp ts (net aa) < stamp ts (net a) → stamp ts (net ab) < stamp ts (net b) → Less (xor_of aa ab)
   unfolding xor_of
   xored aa ab la lb = go (differ (is_negative aa) (is_negative ab))
     where
-      go : (t : Bool) → Less (cond t (NotOf (Xor (net aa) (net ab))) (Form (Xor (net aa) (net ab))))
+      go : (t : Bool) → Less (cond t (Some (NotOf (Xor (net aa) (net ab)))) (Some (Form (Xor (net aa) (net ab)))))
       go true = xor-lighter ts m (net aa) (net ab) (omega arith)
       go false = xor-lighter ts m (net aa) (net ab) (omega arith)
 
@@ -133,8 +133,8 @@ module _ (look : Lookup) (r : Rewriter) (h : Stamped look r) where
 
   -- `Normalize`: operands that stand the wrong way round weigh one more
   exchanged-falls : {A : Type 0} (le : A → A → Bool) (rebuild : A → A → Cell) (a b : A) → ((le a b ≡ false) → weight ts (rebuild b a) < weight ts (rebuild a b))
-      → Lighter ts (weight ts (rebuild a b)) (given (not (le a b)) (Form (rebuild b a)))
-  exchanged-falls le rebuild a b f = has-given (Lighter ts (weight ts (rebuild a b))) tt (not (le a b)) (Form (rebuild b a)) (λ e. f (not-true (le a b) e))
+      → Lighter ts (weight ts (rebuild a b)) (given (not (le a b)) (Some (Form (rebuild b a))))
+  exchanged-falls le rebuild a b f = has-given (Lighter ts (weight ts (rebuild a b))) tt (not (le a b)) (Some (Form (rebuild b a))) (λ e. f (not-true (le a b) e))
 
   swap-falls : (s u low : ℕ) (t v : Bool) → t ≡ false → v ≡ true → 2 * (u + s) + rank v low < 2 * (s + u) + rank t low
   swap-falls s u low true v e f = absurd (true≢false e)

@@ -7,13 +7,11 @@ use Rattle.value.specs.declared.Net.{Net}
 use Rattle.value.specs.Value.{UNDEF, ZERO, ONE, eq_net}
 use Rattle.cell.specs.declared.Cell.{Cell}
 use Rattle.cell.specs.declared.Cell.TheVariants.{Not}
-use Rattle.design.specs.declared.Source.{Source}
-use Rattle.numberer.specs.declared.Found.{Found}
-use Rattle.numberer.specs.declared.Found.TheVariants.{Nothing, At}
+use Rattle.std.specs.Prelude.{None, Some, Option}
+use Rattle.design.specs.Queue.{Source}
 use Rattle.numberer.specs.Numberer.{seek}
-use Rattle.normalize.specs.declared.Outcome.{Outcome}
-use Rattle.normalize.specs.declared.Outcome.TheVariants.{None, Value, Form, Add, NotOf, AddNotOf}
-use Rattle.normalize.specs.Outcomes.{◌or_else◌, given}
+use Rattle.normalize.specs.declared.Change.TheVariants.{Value, Form, Add, NotOf, AddNotOf}
+use Rattle.normalize.specs.Outcomes.{first_change, given, Outcome}
 use Rattle.normalize.specs.Normalize.{normalize}
 use Rattle.aig.specs.Aig.{not_rule, simple_aig_opt}
 use Rattle.rewrite.specs.Rewriter.{Rewriter, Lookup, weight, find_cell}
@@ -30,13 +28,13 @@ Quiet = GoodOutcome (λ c. ⊥) (λ n. Unit {0})
 quiet-not_rule : (src : Source) (n : Net) → Quiet (not_rule src n)
 unfolding not_rule
 quiet-not_rule src n =
-    let test : (b : Bool) (m : Net) → Quiet (given b (Value m)) = λ b m. has-given Quiet tt b (Value m) (λ e. tt) in
+    let test : (b : Bool) (m : Net) → Quiet (given b (Some (Value m))) = λ b m. has-given Quiet tt b (Some (Value m)) (λ e. tt) in
     has-or_else Quiet _ _ (test (eq_net n ZERO) ONE)
-    (has-or_else Quiet _ _ (test (eq_net n ONE) ZERO) (has-or_else Quiet _ _ (test (eq_net n UNDEF) UNDEF) (has-if_not Quiet tt src (λ v. Value v) (λ v e. tt))))
+    (has-or_else Quiet _ _ (test (eq_net n ONE) ZERO) (has-or_else Quiet _ _ (test (eq_net n UNDEF) UNDEF) (has-if_not Quiet tt src (λ v. Some (Value v)) (λ v e. tt))))
 
 -- the rules of an inverter are quiet
 pub not-quiet : (look : Lookup) (r : Rewriter) (n : Net) → Quiet (rules look r (Not n))
-unfolding rules normalize simple_aig_opt ◌or_else◌
+unfolding rules normalize simple_aig_opt first_change
 not-quiet look r n = quiet-not_rule (find_cell look r n) n
 
 -- the steps did not run out
@@ -59,23 +57,23 @@ performed again r o = perform (λ r c. enter c (again r c)) r o
 quiet_same : (again again' : Again) (r : Rewriter) (c : Cell) (o : Outcome) → Quiet o
     → go_on again c (performed again r o) ≡ go_on again' c (performed again' r o)
 quiet_same again again' r c None q = refl
-quiet_same again again' r c (Value n) q = refl
-quiet_same again again' r c (Form d) q = absurd q
-quiet_same again again' r c (Add d) q = absurd q
-quiet_same again again' r c (NotOf d) q = absurd q
-quiet_same again again' r c (AddNotOf d) q = absurd q
+quiet_same again again' r c (Some (Value n)) q = refl
+quiet_same again again' r c (Some (Form d)) q = absurd q
+quiet_same again again' r c (Some (Add d)) q = absurd q
+quiet_same again again' r c (Some (NotOf d)) q = absurd q
+quiet_same again again' r c (Some (AddNotOf d)) q = absurd q
 
-asked-ended : (r : Rewriter) (f : Found) → Ended (asked r f)
-asked-ended r (At n) = tt
-asked-ended r Nothing = tt
+asked-ended : (r : Rewriter) (f : Option Net) → Ended (asked r f)
+asked-ended r (Some n) = tt
+asked-ended r None = tt
 
 quiet-ended : (again : Again) (r : Rewriter) (c : Cell) (o : Outcome) → Quiet o → Ended (go_on again c (performed again r o))
 quiet-ended again r c None q = asked-ended r (seek r.cache c)
-quiet-ended again r c (Value n) q = tt
-quiet-ended again r c (Form d) q = absurd q
-quiet-ended again r c (Add d) q = absurd q
-quiet-ended again r c (NotOf d) q = absurd q
-quiet-ended again r c (AddNotOf d) q = absurd q
+quiet-ended again r c (Some (Value n)) q = tt
+quiet-ended again r c (Some (Form d)) q = absurd q
+quiet-ended again r c (Some (Add d)) q = absurd q
+quiet-ended again r c (Some (NotOf d)) q = absurd q
+quiet-ended again r c (Some (AddNotOf d)) q = absurd q
 
 module _ (look : Lookup) where
   pub not_same : (k m : ℕ) (r : Rewriter) (n : Net) → 0 < k → 0 < m → process k look r (Not n) ≡ process m look r (Not n)
@@ -143,15 +141,15 @@ module _ (look : Lookup) where
         go : (o : Outcome) → Lighter r.stamps (w c) o → ((d : Cell) → w d < k → w d < m → process k look r d ≡ process m look r d)
             → go_on (process k look) c (performed (process k look) r o) ≡ go_on (process m look) c (performed (process m look) r o)
         go None l ih = refl
-        go (Value n) l ih = refl
-        go (Form d) l ih = ap (replacing d) (ih d (omega arith) (omega arith))
-        go (Add d) l ih =
+        go (Some (Value n)) l ih = refl
+        go (Some (Form d)) l ih = ap (replacing d) (ih d (omega arith) (omega arith))
+        go (Some (Add d)) l ih =
             value_same (process k look) (process m look) c (enter d (process k look r d))
             ∙ ap (λ x. go_on (process m look) c (as_value (enter d x))) (ih d (omega arith) (omega arith))
-        go (NotOf d) l ih =
+        go (Some (NotOf d)) l ih =
             inverse-same k m c (enter d (process k look r d)) (omega arith) (omega arith)
             ∙ ap (λ x. go_on (process m look) c (as_not (enter d x))) (ih d (omega arith) (omega arith))
-        go (AddNotOf d) l ih =
+        go (Some (AddNotOf d)) l ih =
             both-same k m c (enter d (process k look r d)) (omega arith) (omega arith)
             ∙ ap (λ x. go_on (process m look) c (add_not (λ r c. enter c (process m look r c)) (enter d x))) (ih d (omega arith) (omega arith))
 
@@ -164,12 +162,12 @@ module _ (look : Lookup) where
         go : (o : Outcome) → Lighter r.stamps (w c) o → ((d : Cell) → w d < k → Ended (process k look r d))
             → Ended (go_on (process k look) c (performed (process k look) r o))
         go None l ih = asked-ended r (seek r.cache c)
-        go (Value n) l ih = tt
-        go (Form d) l ih = replacing-ended d (process k look r d) (ih d (omega arith))
-        go (Add d) l ih = value-ended (process k look) c (enter d (process k look r d)) (entered-ended d (process k look r d) (ih d (omega arith)))
-        go (NotOf d) l ih =
+        go (Some (Value n)) l ih = tt
+        go (Some (Form d)) l ih = replacing-ended d (process k look r d) (ih d (omega arith))
+        go (Some (Add d)) l ih = value-ended (process k look) c (enter d (process k look r d)) (entered-ended d (process k look r d) (ih d (omega arith)))
+        go (Some (NotOf d)) l ih =
             inverse-ended k c (enter d (process k look r d)) (omega arith) (entered-ended d (process k look r d) (ih d (omega arith)))
-        go (AddNotOf d) l ih =
+        go (Some (AddNotOf d)) l ih =
             both-ended k c (enter d (process k look r d)) (omega arith) (entered-ended d (process k look r d) (ih d (omega arith)))
 
     pub process_cell-ended : (c : Cell) → Ended (process_cell look r c)

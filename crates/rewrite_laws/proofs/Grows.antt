@@ -11,8 +11,9 @@ use Rattle.cell.specs.declared.Cell.{Cell}
 use Rattle.netlist.specs.Shape.{visit_mut, has_effects, is_splittable}
 use Rattle.netlist.specs.Netlist.{cell_in}
 use Rattle.design.specs.Queue.{net_in, map_net_new}
-use Rattle.normalize.specs.declared.Outcome.{Outcome}
-use Rattle.normalize.specs.declared.Outcome.TheVariants.{None, Value, Form, Add, NotOf, AddNotOf}
+use Rattle.std.specs.Prelude.{None, Some}
+use Rattle.normalize.specs.Outcomes.{Outcome}
+use Rattle.normalize.specs.declared.Change.TheVariants.{Value, Form, Add, NotOf, AddNotOf}
 use Rattle.rewrite.specs.Rewriter.{Rewriter, Lookup, entered, finished}
 use Rattle.rewrite.specs.Rewrite.{rules, Result, none, cell, value, spent, Added, at, unadded, process, process_cell, add_cell, Run, ran, stuck, bit_done, cell_done, run_item, and_then, run_items, slots_of}
 use Rattle.basics.specs.Lists.{has}
@@ -53,11 +54,11 @@ extends-one r r' c n x = record {
 module _ (look : Lookup) (r : Rewriter) where
   any-outcome : (o : Outcome) → GoodOutcome (λ c. Unit {0}) (λ n. Unit {0}) o
   any-outcome None = tt
-  any-outcome (Value n) = tt
-  any-outcome (Form c) = tt
-  any-outcome (Add c) = tt
-  any-outcome (NotOf c) = tt
-  any-outcome (AddNotOf c) = tt
+  any-outcome (Some (Value c)) = tt
+  any-outcome (Some (Form c)) = tt
+  any-outcome (Some (Add c)) = tt
+  any-outcome (Some (NotOf c)) = tt
+  any-outcome (Some (AddNotOf c)) = tt
 
   pub extending : Keeps look (Extends r) (λ r c. Unit {0}) (λ r n. Unit {0})
   extending = record {

@@ -1,5 +1,5 @@
 -- The run, item by item: what each item keeps, the run keeps. Assumes nothing.
-use Rattle.normalize.specs.Outcomes.{◌or_else◌}
+use Rattle.normalize.specs.Outcomes.{first_change}
 use mathlib.Core.Path.{◌≡◌, refl, sym, ap, ◌∙◌, subst}
 use mathlib.Core.Bool.{Bool, true, false, cond, false≢true}
 use mathlib.Core.List.{List, [], ◌∷◌, ◌++◌, append_assoc, append-nil}
@@ -13,11 +13,10 @@ use Rattle.cell.specs.declared.Cell.TheVariants.{Input, Output, Buf, Not, And, O
 use Rattle.netlist.specs.Shape.{visit_mut, has_effects, is_splittable}
 use Rattle.netlist.specs.Netlist.{cell_in}
 use Rattle.order.specs.Orders.{bit_deps, topo_sort}
-use Rattle.numberer.specs.declared.Found.{Found}
-use Rattle.numberer.specs.declared.Found.TheVariants.{Nothing, At}
+use Rattle.std.proofs.Common.{Option, Some}
 use Rattle.design.specs.Queue.{net_in, map_net_new}
 use Rattle.numberer.specs.Numberer.{seek}
-use Rattle.normalize.specs.declared.Outcome.TheVariants.{None}
+use Rattle.std.specs.Prelude.{None}
 use Rattle.normalize.specs.Normalize.{normalize}
 use Rattle.aig.specs.Aig.{simple_aig_opt}
 use Rattle.rewrite.specs.Rewriter.{Rewriter, Lookup, finished, weight, begun}
@@ -33,7 +32,7 @@ use Rattle.rewrite_laws.proofs.Grows.{GrowsRun, run_item-grows}
 
 -- An item
 pub rules-effect : (look : Lookup) (r : Rewriter) (c : Cell) → has_effects c ≡ true → rules look r c ≡ None
-unfolding has_effects rules normalize simple_aig_opt ◌or_else◌
+unfolding has_effects rules normalize simple_aig_opt first_change
 rules-effect look r (Input l) e = refl
 rules-effect look r (Output a l) e = refl
 rules-effect look r (Buf a) e = absurd (false≢true e)
@@ -45,15 +44,15 @@ rules-effect look r (Mux a b c) e = absurd (false≢true e)
 rules-effect look r (Aig p q) e = absurd (false≢true e)
 
 -- nothing is done with a cell that has effects
-pub effect-none : (look : Lookup) (r : Rewriter) (c : Cell) → has_effects c ≡ true → ((m : Net) → seek r.cache c ≡ At m → ⊥) → process_cell look r c ≡ none r
+pub effect-none : (look : Lookup) (r : Rewriter) (c : Cell) → has_effects c ≡ true → ((m : Net) → seek r.cache c ≡ Some m → ⊥) → process_cell look r c ≡ none r
 unfolding process_cell process
 effect-none look r c e h =
     let k : ℕ = weight r.stamps c in
     ap (λ o. go_on (process k look) c (perform (λ r c. enter c (process k look r c)) r o)) (rules-effect look r c e) ∙ go (seek r.cache c) refl
   where
-    go : (f : Found) → seek r.cache c ≡ f → asked r (seek r.cache c) ≡ none r
-    go (At m) q = absurd (h m q)
-    go Nothing q = ap (asked r) q
+    go : (f : Option Net) → seek r.cache c ≡ f → asked r (seek r.cache c) ≡ none r
+    go (Some m) q = absurd (h m q)
+    go None q = ap (asked r) q
 
 module _ (look : Lookup) (s : ℕ) (r : Rewriter) (G : Run → Type 0) where
   -- its cell with the operands mapped
@@ -73,7 +72,7 @@ module _ (look : Lookup) (s : ℕ) (r : Rewriter) (G : Run → Type 0) where
 
 -- where a cell is left as it is: an input or output, and a gate
 module _ (s : ℕ) (r : Rewriter) (c : Cell) (G : Run → Type 0) where
-  pub port-done : (look : Lookup) → has_effects c ≡ true → ((m : Net) → seek r.cache c ≡ At m → ⊥) → G (ran r) → G (cell_done s c (process_cell look r c))
+  pub port-done : (look : Lookup) → has_effects c ≡ true → ((m : Net) → seek r.cache c ≡ Some m → ⊥) → G (ran r) → G (cell_done s c (process_cell look r c))
   port-done look e new h =
       rw (effect-none look r c e new)
       (subst (λ b. G (ran (cond b r (finished r s r.design (r.cache ++ ((c, net_in s) ∷ [])))))) (sym e) h)

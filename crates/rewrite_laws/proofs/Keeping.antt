@@ -10,7 +10,7 @@ use lib.ListN.{length, get_or, length-append, get_or-append}
 use Rattle.value.specs.declared.Net.{Net}
 use Rattle.cell.specs.declared.Cell.{Cell}
 use Rattle.netlist.specs.Shape.{has_effects}
-use Rattle.numberer.specs.declared.Found.TheVariants.{At}
+use Rattle.std.proofs.Common.{Some}
 use Rattle.design.specs.Queue.{net_in, find_new_cell}
 use Rattle.numberer.specs.Numberer.{seek}
 use Rattle.rewrite.specs.Rewriter.{Rewriter, entered}
@@ -56,10 +56,10 @@ module _ (cs₀ : List Cell) where
       same-stamp : (i : ℕ) → i < tickets cs₀ → get_or ts' i 0 ≡ get_or r.stamps i 0
       same-stamp i l = get_or-append r.stamps (suc r.clock ∷ []) 0 i (omega (arith, st.inv.many, st.inv.sizes))
 
-      known-after : (x : Cell) (y : Net) → seek (r.cache ++ ((c, m) ∷ [])) x ≡ At y → Settled cs₀ ts' y × (has_effects x ≡ false)
+      known-after : (x : Cell) (y : Net) → seek (r.cache ++ ((c, m) ∷ [])) x ≡ Some y → Settled cs₀ ts' y × (has_effects x ≡ false)
       known-after x y e = go (seek-snoc r.cache (c, m) x y e)
         where
-          go : (seek r.cache x ≡ At y) ⊎ ((c ≡ x) × (m ≡ y)) → Settled cs₀ ts' y × (has_effects x ≡ false)
+          go : (seek r.cache x ≡ Some y) ⊎ ((c ≡ x) × (m ≡ y)) → Settled cs₀ ts' y × (has_effects x ≡ false)
           go (inl f) =
               let k : Settled cs₀ r.stamps y × (has_effects x ≡ false) = st.known x y f in
               ((later-settled cs₀ r.stamps ts' (entered-later cs₀ r st.inv c m) y k.0).0, k.1)

@@ -9,12 +9,12 @@ use Rattle.value.specs.Value.{UNDEF, ZERO, ONE}
 use Rattle.cell.specs.declared.Cell.{Cell}
 use Rattle.cell.specs.declared.Cell.TheVariants.{Not}
 use Rattle.netlist.specs.Shape.{visit, has_effects}
-use Rattle.numberer.specs.declared.Found.{Found}
-use Rattle.numberer.specs.declared.Found.TheVariants.{Nothing, At}
+use Rattle.std.proofs.Common.{Option, Some}
 use Rattle.design.specs.Queue.{net_in}
 use Rattle.numberer.specs.Numberer.{seek}
-use Rattle.normalize.specs.declared.Outcome.{Outcome}
-use Rattle.normalize.specs.declared.Outcome.TheVariants.{None, Value, Form, Add, NotOf, AddNotOf}
+use Rattle.std.specs.Prelude.{None, Some}
+use Rattle.normalize.specs.Outcomes.{Outcome}
+use Rattle.normalize.specs.declared.Change.TheVariants.{Value, Form, Add, NotOf, AddNotOf}
 use Rattle.normalize.specs.Normalize.{normalize}
 use Rattle.aig.specs.Aig.{simple_aig_opt}
 use Rattle.rewrite.specs.Rewriter.{Rewriter, Lookup, entered, find_cell}
@@ -27,8 +27,8 @@ use Rattle.aig_laws.proofs.Reading.{normalize-reads, simple-reads}
 pub record Keeps (look : Lookup) (P : Rewriter → Type 0) (Q : Rewriter → Cell → Type 0) (N : Rewriter → Net → Type 0) : Type 0 where
   pub plan : (r : Rewriter) (c : Cell) → P r → Q r c → GoodOutcome (Q r) (N r) (rules look r c)
   pub inverse : (r : Rewriter) (n : Net) → P r → N r n → Q r (Not n)
-  pub cached : (r : Rewriter) (c : Cell) (n : Net) → P r → Q r c → seek r.cache c ≡ At n → N r n
-  pub step : (r : Rewriter) (c : Cell) → P r → Q r c → rules look r c ≡ None → seek r.cache c ≡ Nothing
+  pub cached : (r : Rewriter) (c : Cell) (n : Net) → P r → Q r c → seek r.cache c ≡ Some n → N r n
+  pub step : (r : Rewriter) (c : Cell) → P r → Q r c → rules look r c ≡ None → seek r.cache c ≡ None
       → P (entered r c (net_in (length r.design.cells))) × N (entered r c (net_in (length r.design.cells))) (net_in (length r.design.cells))
 
 module _ (look : Lookup) (P : Rewriter → Type 0) (Q : Rewriter → Cell → Type 0) (N : Rewriter → Net → Type 0) (keeps : Keeps look P Q N) where
@@ -37,7 +37,7 @@ module _ (look : Lookup) (P : Rewriter → Type 0) (Q : Rewriter → Cell → Ty
     pub kept : P r
     pub good : Q r c
     pub still : rules look r c ≡ None
-    pub new : seek r.cache c ≡ Nothing
+    pub new : seek r.cache c ≡ None
 
   abbrev pub KeptResult : Cell → Result → Type 0
   KeptResult c (none r) = Left c r
@@ -78,15 +78,15 @@ module _ (look : Lookup) (P : Rewriter → Type 0) (Q : Rewriter → Cell → Ty
   perform_kept : (adder : Rewriter → Cell → Added) → ((r : Rewriter) (c : Cell) → P r → Q r c → KeptAdded (adder r c)) → (r : Rewriter) (c : Cell) (o : Outcome)
       → P r → Q r c → rules look r c ≡ o → GoodOutcome (Q r) (N r) o → KeptPass c (perform adder r o)
   perform_kept adder f r c None p q e g = (p, q, e)
-  perform_kept adder f r c (Value n) p q e g = (p, g)
-  perform_kept adder f r c (Form d) p q e g = (p, g)
-  perform_kept adder f r c (Add d) p q e g = value-kept c (adder r d) (f r d p g)
-  perform_kept adder f r c (NotOf d) p q e g = inverse-kept c (adder r d) (f r d p g)
-  perform_kept adder f r c (AddNotOf d) p q e g = both-kept adder f c (adder r d) (f r d p g)
+  perform_kept adder f r c (Some (Value n)) p q e g = (p, g)
+  perform_kept adder f r c (Some (Form d)) p q e g = (p, g)
+  perform_kept adder f r c (Some (Add d)) p q e g = value-kept c (adder r d) (f r d p g)
+  perform_kept adder f r c (Some (NotOf d)) p q e g = inverse-kept c (adder r d) (f r d p g)
+  perform_kept adder f r c (Some (AddNotOf d)) p q e g = both-kept adder f c (adder r d) (f r d p g)
 
-  asked-kept : (c : Cell) (r : Rewriter) (f : Found) → P r → Q r c → rules look r c ≡ None → seek r.cache c ≡ f → KeptResult c (asked r f)
-  asked-kept c r (At n) p q e s = (p, keeps.cached r c n p q s)
-  asked-kept c r Nothing p q e s = record { kept = p; good = q; still = e; new = s }
+  asked-kept : (c : Cell) (r : Rewriter) (f : Option Net) → P r → Q r c → rules look r c ≡ None → seek r.cache c ≡ f → KeptResult c (asked r f)
+  asked-kept c r (Some n) p q e s = (p, keeps.cached r c n p q s)
+  asked-kept c r None p q e s = record { kept = p; good = q; still = e; new = s }
 
   replacing-kept : (c d : Cell) (x : Result) → KeptResult d x → KeptResult c (replacing d x)
   replacing-kept c d (none r) h = h
@@ -136,8 +136,8 @@ inverse-reads S m v = ((v, tt), refl)
 -- the same where it is said under a condition
 pub delayed : (B : Type 0) (q : Cell → Type 0) (v : Net → Type 0) (o : Outcome) → (B → GoodOutcome q v o) → GoodOutcome (λ c. B → q c) (λ m. B → v m) o
 delayed B q v None f = tt
-delayed B q v (Value m) f = f
-delayed B q v (Form c) f = f
-delayed B q v (Add c) f = f
-delayed B q v (NotOf c) f = f
-delayed B q v (AddNotOf c) f = f
+delayed B q v (Some (Value c)) f = f
+delayed B q v (Some (Form c)) f = f
+delayed B q v (Some (Add c)) f = f
+delayed B q v (Some (NotOf c)) f = f
+delayed B q v (Some (AddNotOf c)) f = f

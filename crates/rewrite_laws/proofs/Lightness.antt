@@ -10,8 +10,9 @@ use Rattle.value.specs.declared.ControlNet.TheVariants.{Pos, Neg}
 use Rattle.value.specs.Value.{ZERO, ONE, eq_net, le_net, driver, net, from_net_invert, not_control, le_control}
 use Rattle.value.proofs.Laws.{net-of}
 use Rattle.cell.specs.declared.Cell.TheVariants.{Not, And, Or, Xor, Aig}
-use Rattle.normalize.specs.declared.Outcome.{Outcome}
-use Rattle.normalize.specs.declared.Outcome.TheVariants.{None, Value, Form, Add, NotOf, AddNotOf}
+use Rattle.std.specs.Prelude.{None, Some}
+use Rattle.normalize.specs.Outcomes.{Outcome}
+use Rattle.normalize.specs.declared.Change.TheVariants.{Value, Form, Add, NotOf, AddNotOf}
 use Rattle.rewrite.specs.Rewriter.{stamp, weight, rank}
 use Rattle.aig_laws.proofs.Reading.{not-net}
 use Rattle.rewrite_laws.specs.Stamps.{Lighter}
@@ -71,8 +72,8 @@ module _ (ts : List ℕ) where
   -- lighter than less
   pub lighter-more : (m m' : ℕ) (o : Outcome) → m ≤ m' → Lighter ts m o → Lighter ts m' o
   lighter-more m m' None h p = tt
-  lighter-more m m' (Value n) h p = tt
-  lighter-more m m' (Form c) h p = omega arith
-  lighter-more m m' (Add c) h p = omega arith
-  lighter-more m m' (NotOf c) h p = omega arith
-  lighter-more m m' (AddNotOf c) h p = omega arith
+  lighter-more m m' (Some (Value n)) h p = tt
+  lighter-more m m' (Some (Form c)) h p = omega arith
+  lighter-more m m' (Some (Add c)) h p = omega arith
+  lighter-more m m' (Some (NotOf c)) h p = omega arith
+  lighter-more m m' (Some (AddNotOf c)) h p = omega arith

@@ -17,7 +17,7 @@ use Rattle.basics.proofs.Tables.{tabulate-at, tabulate-length}
 use Rattle.netlist.specs.Shape.{visit, visit_mut, is_source, has_effects}
 use Rattle.netlist.specs.Netlist.{cell_in}
 use Rattle.order.specs.Orders.{bit_deps, topo_sort}
-use Rattle.numberer.specs.declared.Found.TheVariants.{At}
+use Rattle.std.proofs.Common.{Some}
 use Rattle.design.specs.Queue.{Design, net_in, unchanged, map_net_new, find_new_cell, replace_net, replace_cell}
 use Rattle.numberer.specs.Numberer.{Entry, seek}
 use Rattle.rewrite.specs.Rewriter.{Rewriter, begun, stamp, finished}
@@ -78,7 +78,7 @@ module _ (cs₀ : List Cell) where
     here-settled few = drives-in (SettledSlot cs₀ zs) s (omega (arith, small, st.inv.many, few)) (inr (omega (arith, stamp-here)))
 
     finish : (d : Design) (es : List Entry) → Inv cs₀ (finished r s d es)
-        → ((c : Cell) (m : Net) → seek es c ≡ At m → Settled cs₀ zs m × (has_effects c ≡ false)) → State cs₀ (before ++ (s ∷ [])) (finished r s d es)
+        → ((c : Cell) (m : Net) → seek es c ≡ Some m → Settled cs₀ zs m × (has_effects c ≡ false)) → State cs₀ (before ++ (s ∷ [])) (finished r s d es)
     unfolding finished
     finish d es inv known = record {
       inv = inv;
@@ -94,14 +94,14 @@ module _ (cs₀ : List Cell) where
     }
 
     -- the cache as it was, and with one more entry for the slot
-    known_same : (c : Cell) (m : Net) → seek r.cache c ≡ At m → Settled cs₀ zs m × (has_effects c ≡ false)
+    known_same : (c : Cell) (m : Net) → seek r.cache c ≡ Some m → Settled cs₀ zs m × (has_effects c ≡ false)
     known_same c m e = (old-settled r.design r.cache m (st.known c m e).0, (st.known c m e).1)
 
-    known_more : FewSlots r → (x : Cell) → has_effects x ≡ false → (c : Cell) (m : Net) → seek (r.cache ++ ((x, net_in s) ∷ [])) c ≡ At m
+    known_more : FewSlots r → (x : Cell) → has_effects x ≡ false → (c : Cell) (m : Net) → seek (r.cache ++ ((x, net_in s) ∷ [])) c ≡ Some m
         → Settled cs₀ zs m × (has_effects c ≡ false)
     known_more few x g c m e = go (seek-snoc r.cache (x, net_in s) c m e)
       where
-        go : (seek r.cache c ≡ At m) ⊎ ((x ≡ c) × (net_in s ≡ m)) → Settled cs₀ zs m × (has_effects c ≡ false)
+        go : (seek r.cache c ≡ Some m) ⊎ ((x ≡ c) × (net_in s ≡ m)) → Settled cs₀ zs m × (has_effects c ≡ false)
         go (inl f) = known_same c m f
         go (inr f) = (subst (Settled cs₀ zs) f.1 (here-settled few), ap has_effects (sym f.0) ∙ g)
 

@@ -21,9 +21,8 @@ use Rattle.cell.specs.declared.Cell.{Cell}
 use Rattle.netlist.specs.Shape.{visit}
 use Rattle.netlist.specs.Netlist.{cell_in}
 use Rattle.netlist.proofs.Sources.{source-reads-nothing}
-use Rattle.design.specs.declared.Source.{Source}
-use Rattle.design.specs.declared.Source.TheVariants.{Opaque, Known}
-use Rattle.design.specs.Queue.{driven_to, map_net_new, source_in, find_new_cell}
+use Rattle.std.specs.Prelude.{None, Some}
+use Rattle.design.specs.Queue.{driven_to, map_net_new, source_in, find_new_cell, Source}
 use Rattle.rewrite.specs.Rewriter.{Rewriter, stamp_in, stamp, find_cell}
 use Rattle.basics.specs.Lists.{All}
 use Rattle.order_laws.specs.Members.{Drives}
@@ -113,15 +112,15 @@ module _ (cs₀ : List Cell) where
     stamped-settled m h s e = inr (omega (arith, h, stamp-driven ts m s e))
 
     source-map : (P Q : Net → Type 0) → ((n : Net) → P n → Q n) → (src : Source) → SourceNets P src → SourceNets Q src
-    source-map P Q f Opaque h = tt
-    source-map P Q f (Known c) h = all-imp P Q f (visit c) h
+    source-map P Q f None h = tt
+    source-map P Q f (Some c) h = all-imp P Q f (visit c) h
 
     -- the law: the Rust's look-up gives operands stamped below the net
     pub stamped : Stamped find_new_cell r
     unfolding find_cell
     stamped m = go (eqb (stamp ts m) 0) refl
       where
-        go : (b : Bool) → eqb (stamp ts m) 0 ≡ b → SourceBefore ts (stamp ts m) (cond b Opaque (find_new_cell r.design m))
+        go : (b : Bool) → eqb (stamp ts m) 0 ≡ b → SourceBefore ts (stamp ts m) (cond b None (find_new_cell r.design m))
         go true e = tt
         go false e =
             source-map (Under cs₀ ts (stamp ts m)) (λ n. stamp ts n < stamp ts m) (λ n u. u.1) (find_new_cell r.design m)
@@ -131,6 +130,6 @@ module _ (cs₀ : List Cell) where
     unfolding find_cell
     found-settled m h = go (eqb (stamp ts m) 0)
       where
-        go : (b : Bool) → SourceNets (Settled cs₀ ts) (cond b Opaque (find_new_cell r.design m))
+        go : (b : Bool) → SourceNets (Settled cs₀ ts) (cond b None (find_new_cell r.design m))
         go true = tt
         go false = source-map (Under cs₀ ts (stamp ts m)) (Settled cs₀ ts) (λ n u. u.0) (find_new_cell r.design m) (look-good m h)

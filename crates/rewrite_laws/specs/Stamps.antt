@@ -1,8 +1,8 @@
 -- Stamps of what a look-up gives. Assumes nothing: these are definitions.
 use Rattle.std.specs.Prelude.{List, ℕ, ◌<◌}
 use Rattle.value.specs.declared.Net.{Net}
-use Rattle.design.specs.declared.Source.{Source}
-use Rattle.normalize.specs.declared.Outcome.{Outcome}
+use Rattle.design.specs.Queue.{Source}
+use Rattle.normalize.specs.Outcomes.{Outcome}
 use Rattle.rewrite.specs.Rewriter.{Rewriter, Lookup, stamp, weight, find_cell}
 use Rattle.aig_laws.specs.Reads.{SourceNets, GoodOutcome}
 

@@ -5,7 +5,7 @@ use Rattle.value.specs.declared.Net.{Net}
 use Rattle.cell.specs.declared.Cell.{Cell}
 use Rattle.netlist.specs.Shape.{visit, is_source, has_effects}
 use Rattle.netlist.specs.Netlist.{cell_in}
-use Rattle.numberer.specs.declared.Found.TheVariants.{At}
+use Rattle.std.specs.Prelude.{Some}
 use Rattle.design.specs.Queue.{net_in}
 use Rattle.numberer.specs.Numberer.{seek}
 use Rattle.rewrite.specs.Rewriter.{Rewriter, stamp}
@@ -43,6 +43,6 @@ module _ (cs₀ : List Cell) where
   -- the state after the items `before`
   pub record State (before : List ℕ) (r : Rewriter) : Type 0 where
     pub inv : Inv r
-    pub known : (c : Cell) (m : Net) → seek r.cache c ≡ At m → Settled r.stamps m × (has_effects c ≡ false)
+    pub known : (c : Cell) (m : Net) → seek r.cache c ≡ Some m → Settled r.stamps m × (has_effects c ≡ false)
     pub done : (i : ℕ) → i < tickets → has i before ≡ true → has_effects (cell_in cs₀ i) ≡ false → 0 < get_or r.stamps i 0
     pub waiting : (i : ℕ) → i < tickets → has i before ≡ false → get_or r.stamps i 0 ≡ 0

@@ -15,10 +15,10 @@ use Rattle.cell.specs.declared.Cell.{Cell}
 use Rattle.cell.specs.declared.Cell.TheVariants.{Input}
 use Rattle.netlist.specs.Shape.{visit, has_effects}
 use Rattle.netlist.specs.Netlist.{cell_in}
-use Rattle.numberer.specs.declared.Found.TheVariants.{Nothing, At}
+use Rattle.std.proofs.Common.{Some}
 use Rattle.design.specs.Queue.{net_in, find_new_cell}
 use Rattle.numberer.specs.Numberer.{seek}
-use Rattle.normalize.specs.declared.Outcome.TheVariants.{None}
+use Rattle.std.specs.Prelude.{None}
 use Rattle.normalize.specs.Normalize.{normalize}
 use Rattle.aig.specs.Aig.{simple_aig_opt}
 use Rattle.rewrite.specs.Rewriter.{Rewriter, find_cell, entered}
@@ -48,7 +48,7 @@ module _ (cs₀ : List Cell) where
     N r m = FewSlots r → Fresh cs₀ (length r.design.cells) m
 
     -- an entered cell
-    module _ (r : Rewriter) (c : Cell) (p : P r) (q : Q r c) (applies : rules find_new_cell r c ≡ None) (new : seek r.cache c ≡ Nothing)
+    module _ (r : Rewriter) (c : Cell) (p : P r) (q : Q r c) (applies : rules find_new_cell r c ≡ None) (new : seek r.cache c ≡ None)
         (few : FewSlots (entered r c (net_in (length r.design.cells)))) where
       abbrev total : ℕ
       total = length r.design.cells
@@ -124,10 +124,10 @@ module _ (cs₀ : List Cell) where
                 ∙ no-rule.1;
           })
 
-      known-after : (x : Cell) (y : Net) → seek (r.cache ++ ((c, m) ∷ [])) x ≡ At y → Fresh cs₀ (length cs') y × (has_effects x ≡ false)
+      known-after : (x : Cell) (y : Net) → seek (r.cache ++ ((c, m) ∷ [])) x ≡ Some y → Fresh cs₀ (length cs') y × (has_effects x ≡ false)
       known-after x y e = go (seek-snoc r.cache (c, m) x y e)
         where
-          go : (seek r.cache x ≡ At y) ⊎ ((c ≡ x) × (m ≡ y)) → Fresh cs₀ (length cs') y × (has_effects x ≡ false)
+          go : (seek r.cache x ≡ Some y) ⊎ ((c ≡ x) × (m ≡ y)) → Fresh cs₀ (length cs') y × (has_effects x ≡ false)
           go (inl f) = (wider y (st.known x y f).0, (st.known x y f).1)
           go (inr f) = (subst (Fresh cs₀ (length cs')) f.1 new-fresh, ap has_effects (sym f.0) ∙ gate.1)
 
@@ -142,7 +142,7 @@ module _ (cs₀ : List Cell) where
         stamped = by-slot (λ i. 0 < get_or ts' i 0) (λ i l k. omega (arith, old-stamp i k, st.stamped i l k))
             (subst (λ (i : ℕ). 0 < get_or ts' i 0) st.sizes (omega (arith, get_or-append_seam r.stamps (suc r.clock) [] 0)));
         adds = by-slot (λ i. Lasting cs₀ cs' i (cell_in cs' i)) old-lasting new-lasting;
-        found = by-slot (λ i. seek (r.cache ++ ((c, m) ∷ [])) (cell_in cs' i) ≡ At (net_in i))
+        found = by-slot (λ i. seek (r.cache ++ ((c, m) ∷ [])) (cell_in cs' i) ≡ Some (net_in i))
             (λ i l k. ap (seek (r.cache ++ ((c, m) ∷ []))) (old-cell i k) ∙ seek-old r.cache (c, m) (cell_in cs i) (net_in i) (st.found i l k))
             (ap (seek (r.cache ++ ((c, m) ∷ []))) (get_or-append_seam cs c [] (Input 0)) ∙ seek-new r.cache c m new);
         known = known-after;

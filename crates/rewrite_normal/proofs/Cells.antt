@@ -12,10 +12,10 @@ use Rattle.cell.specs.declared.Cell.{Cell}
 use Rattle.cell.specs.declared.Cell.TheVariants.{Input, Output, Buf, Not, And, Or, Xor, Mux, Aig}
 use Rattle.cell.specs.Records.{cell_record}
 use Rattle.netlist.specs.Shape.{visit}
-use Rattle.design.specs.declared.Source.{Source}
-use Rattle.normalize.specs.declared.Outcome.{Outcome}
-use Rattle.normalize.specs.declared.Outcome.TheVariants.{None, Value, Form, Add, NotOf, AddNotOf}
-use Rattle.normalize.specs.Outcomes.{◌or_else◌, given}
+use Rattle.std.specs.Prelude.{None, Some}
+use Rattle.design.specs.Queue.{Source}
+use Rattle.normalize.specs.declared.Change.TheVariants.{Value, Form, Add, NotOf, AddNotOf}
+use Rattle.normalize.specs.Outcomes.{◌or_else◌, first_change, given, Outcome}
 use Rattle.normalize.specs.Normalize.{normalize}
 use Rattle.aig.specs.Aig.{aig_rule, xor_rule, not_rule, simple_aig_opt}
 use Rattle.basics.specs.Lists.{All}
@@ -37,16 +37,12 @@ simple-same f g (Buf a) h = refl
 simple-same f g (Mux a b c) h = refl
 
 pub both-none : (x y : Outcome) → x or_else y ≡ None → (x ≡ None) × (y ≡ None)
-unfolding ◌or_else◌
+unfolding first_change
 both-none None y e = (refl, e)
-both-none (Value n) y e = let z : ◌≡◌ {A = ℕ} 0 1 = cc in absurd (omega arith)
-both-none (Form c) y e = let z : ◌≡◌ {A = ℕ} 0 1 = cc in absurd (omega arith)
-both-none (Add c) y e = let z : ◌≡◌ {A = ℕ} 0 1 = cc in absurd (omega arith)
-both-none (NotOf c) y e = let z : ◌≡◌ {A = ℕ} 0 1 = cc in absurd (omega arith)
-both-none (AddNotOf c) y e = let z : ◌≡◌ {A = ℕ} 0 1 = cc in absurd (omega arith)
+both-none (Some c) y e = let z : ◌≡◌ {A = ℕ} 0 1 = cc in absurd (omega arith)
 
 -- cells in order are equal where they are alike
-in_order : (t : Bool) (c : Cell) → given (not t) (Form c) ≡ None → t ≡ true
+in_order : (t : Bool) (c : Cell) → given (not t) (Some (Form c)) ≡ None → t ≡ true
 in_order true c e = refl
 in_order false c e = let z : ◌≡◌ {A = ℕ} 0 1 = cc in absurd (omega arith)
 

@@ -20,13 +20,10 @@ use Rattle.kinds.specs.Kinds.{kind_of, sort_of}
 use Rattle.cell.specs.Records.{cell_record}
 use Rattle.netlist.specs.Shape.{visit, visit_mut, is_input, has_effects, is_output}
 use Rattle.netlist.specs.Netlist.{cell_in}
-use Rattle.design.specs.declared.Source.{Source}
-use Rattle.design.specs.declared.Source.TheVariants.{Opaque, Known}
-use Rattle.numberer.specs.declared.Found.TheVariants.{At}
-use Rattle.design.specs.Queue.{net_in}
+use Rattle.std.specs.Prelude.{None, Some}
+use Rattle.design.specs.Queue.{net_in, Source}
 use Rattle.numberer.specs.Numberer.{seek}
 use Rattle.compact.specs.Compact.{keep, is_kept, kept_slots, count_kept, renumbered, net_map, compact}
-use Rattle.normalize.specs.declared.Outcome.TheVariants.{None}
 use Rattle.normalize.specs.Normalize.{normalize}
 use Rattle.aig.specs.Aig.{simple_aig_opt}
 use Rattle.order_laws.specs.Members.{Drives}
@@ -188,11 +185,11 @@ module _ (end : After) where
   lasting j a = end.state.adds (from j) a.late a.inside
 
   -- a net's cell in the compacted netlist was end seen where it comes from
-  seen-added : (s : ℕ) → tickets end ≤ s → s < total end → seen (cs₀ end) end.last.design.cells (net_in s) ≡ Known (was end s)
+  seen-added : (s : ℕ) → tickets end ≤ s → s < total end → seen (cs₀ end) end.last.design.cells (net_in s) ≡ Some (was end s)
   unfolding seen
   seen-added s l k =
       ap (seen_by (cs₀ end) end.last.design.cells) (driver-cell (slot_at s) (omega (arith, few)))
-      ∙ either (ltb s (tickets end)) (λ e. absurd (omega (arith, ltb-true s (tickets end) e))) (λ e. ap (λ (b : Bool). cond b Opaque (Known (was end s))) e)
+      ∙ either (ltb s (tickets end)) (λ e. absurd (omega (arith, ltb-true s (tickets end) e))) (λ e. ap (λ (b : Bool). cond b None (Some (was end s))) e)
 
   follows : Follows back (look_in (compact (left end)).cells) (seen (cs₀ end) end.last.design.cells)
   follows = record { fixes = renumber-fixes from from-small; known = leads }
@@ -220,7 +217,7 @@ module _ (end : After) where
   added-distinct : (j i : ℕ) → Added j → Added i → Alike (was end (from j)) (was end (from i)) → from j ≡ from i
   added-distinct j i a b h =
       let e : was end (from j) ≡ was end (from i) = sorted-alike (was end (from j)) (was end (from i)) (lasting j a).sorted (lasting i b).sorted h in
-      let f : At (net_in (from j)) ≡ At (net_in (from i)) =
+      let f : Some (net_in (from j)) ≡ Some (net_in (from i)) =
       sym (end.state.found (from j) a.late a.inside) ∙ ap (seek end.last.cache) e ∙ end.state.found (from i) b.late b.inside in
       let g : net_in (from j) ≡ net_in (from i) = cc in
       omega (arith, ap (λ (n : Net). n.0) g)

@@ -20,12 +20,9 @@ use Rattle.value.proofs.Laws.{cell-driver, driver-const}
 use Rattle.cell.specs.declared.Cell.{Cell}
 use Rattle.netlist.specs.Shape.{visit, is_source, is_output, has_effects}
 use Rattle.netlist.specs.Netlist.{cell_in}
-use Rattle.design.specs.declared.Source.{Source}
-use Rattle.design.specs.declared.Source.TheVariants.{Opaque, Known}
-use Rattle.numberer.specs.declared.Found.TheVariants.{At}
-use Rattle.design.specs.Queue.{net_in, driven_to, map_net_new, source_in, find_new_cell}
+use Rattle.std.specs.Prelude.{None, Some}
+use Rattle.design.specs.Queue.{net_in, driven_to, map_net_new, source_in, find_new_cell, Source}
 use Rattle.numberer.specs.Numberer.{seek}
-use Rattle.normalize.specs.declared.Outcome.TheVariants.{None}
 use Rattle.normalize.specs.Normalize.{normalize}
 use Rattle.aig.specs.Aig.{simple_aig_opt}
 use Rattle.rewrite.specs.Rewriter.{Rewriter, stamp_in, stamp, find_cell}
@@ -69,8 +66,8 @@ module _ (cs₀ : List Cell) where
 
   -- what is seen of a fresh net: an added cell, and nothing of a source
   abbrev pub seen_by : List Cell → Driver → Source
-  seen_by cs (driven.Const t) = Opaque
-  seen_by cs (driven.Cell s) = cond (ltb s.0 tickets) Opaque (Known (cell_in cs s.0))
+  seen_by cs (driven.Const t) = None
+  seen_by cs (driven.Cell s) = cond (ltb s.0 tickets) None (Some (cell_in cs s.0))
 
   unfoldable pub seen : List Cell → Net → Source
   seen cs m = seen_by cs (driver m)
@@ -80,10 +77,10 @@ module _ (cs₀ : List Cell) where
   unfolding Fresh seen
   seen_same n cs cs' same m h = go (driver m) refl
     where
-      slot : (s : ℕ) → FreshSlot n s → (b : Bool) → ltb s tickets ≡ b → cond b Opaque (Known (cell_in cs s)) ≡ cond b Opaque (Known (cell_in cs' s))
+      slot : (s : ℕ) → FreshSlot n s → (b : Bool) → ltb s tickets ≡ b → cond b None (Some (cell_in cs s)) ≡ cond b None (Some (cell_in cs' s))
       slot s h true e = refl
       slot s (inl i) false e = absurd (omega (arith, i.0, ltb-false s tickets e))
-      slot s (inr p) false e = ap Known (sym (same s p.0 p.1))
+      slot s (inr p) false e = ap Some (sym (same s p.0 p.1))
 
       go : (x : Driver) → driver m ≡ x → seen_by cs x ≡ seen_by cs' x
       go (driven.Const t) e = refl
@@ -104,8 +101,8 @@ module _ (cs₀ : List Cell) where
     pub ports : (i : ℕ) → i < tickets → has_effects (cell_in cs₀ i) ≡ true → get_or r.stamps i 0 ≡ 0
     pub stamped : (i : ℕ) → tickets ≤ i → i < length r.design.cells → 0 < get_or r.stamps i 0
     pub adds : (i : ℕ) → tickets ≤ i → i < length r.design.cells → Lasting r.design.cells i (cell_in r.design.cells i)
-    pub found : (i : ℕ) → tickets ≤ i → i < length r.design.cells → seek r.cache (cell_in r.design.cells i) ≡ At (net_in i)
-    pub known : (c : Cell) (m : Net) → seek r.cache c ≡ At m → Fresh (length r.design.cells) m × (has_effects c ≡ false)
+    pub found : (i : ℕ) → tickets ≤ i → i < length r.design.cells → seek r.cache (cell_in r.design.cells i) ≡ Some (net_in i)
+    pub known : (c : Cell) (m : Net) → seek r.cache c ≡ Some m → Fresh (length r.design.cells) m × (has_effects c ≡ false)
     pub stays : (i : ℕ) (x : Net) → i < tickets → has_effects (cell_in cs₀ i) ≡ true → get_or r.design.replaced i x ≡ net_in i
     pub done : (i : ℕ) (x : Net) → i < tickets → has i before ≡ true → has_effects (cell_in cs₀ i) ≡ false
         → Fresh (length r.design.cells) (get_or r.design.replaced i x)
@@ -157,18 +154,18 @@ module _ (cs₀ : List Cell) where
     pub look-fresh : (m : Net) → Fresh total m → find_cell find_new_cell r m ≡ seen r.design.cells m
     unfolding find_cell find_new_cell stamp seen Fresh
     look-fresh m h =
-        ap (λ (y : Net). cond (eqb (stamp_in r.stamps (driver m)) 0) Opaque (source_in r.design.cells (driver y))) (map-fresh m h) ∙ go (driver m) refl
+        ap (λ (y : Net). cond (eqb (stamp_in r.stamps (driver m)) 0) None (source_in r.design.cells (driver y))) (map-fresh m h) ∙ go (driver m) refl
       where
-        slot : (s : ℕ) → FreshSlot total s → cond (eqb (get_or r.stamps s 0) 0) Opaque (Known (cell_in r.design.cells s))
-            ≡ cond (ltb s tickets) Opaque (Known (cell_in r.design.cells s))
+        slot : (s : ℕ) → FreshSlot total s → cond (eqb (get_or r.stamps s 0) 0) None (Some (cell_in r.design.cells s))
+            ≡ cond (ltb s tickets) None (Some (cell_in r.design.cells s))
         slot s (inl i) =
-            ap (λ (k : ℕ). cond (eqb k 0) Opaque (Known (cell_in r.design.cells s))) (st.ports s i.0 (source-effects (cell_in cs₀ s) i.1))
+            ap (λ (k : ℕ). cond (eqb k 0) None (Some (cell_in r.design.cells s))) (st.ports s i.0 (source-effects (cell_in cs₀ s) i.1))
             ∙ either (ltb s tickets) (λ e. rw e) (λ e. absurd (omega (arith, i.0, ltb-false s tickets e)))
         slot s (inr p) =
             rw (ne_eqb (get_or r.stamps s 0) 0 (λ z. omega (arith, z, st.stamped s p.0 p.1)))
             (either (ltb s tickets) (λ e. absurd (omega (arith, p.0, ltb-true s tickets e))) (λ e. rw e))
 
-        go : (x : Driver) → driver m ≡ x → cond (eqb (stamp_in r.stamps x) 0) Opaque (source_in r.design.cells x) ≡ seen_by r.design.cells x
+        go : (x : Driver) → driver m ≡ x → cond (eqb (stamp_in r.stamps x) 0) None (source_in r.design.cells x) ≡ seen_by r.design.cells x
         go (driven.Const t) e = refl
         go (driven.Cell s) e = slot s.0 (h s e)
 
@@ -176,7 +173,7 @@ module _ (cs₀ : List Cell) where
     unfolding seen Fresh
     seen-reads m h = go (driver m) refl
       where
-        slot : (s : ℕ) → FreshSlot total s → (b : Bool) → ltb s tickets ≡ b → SourceNets (Fresh total) (cond b Opaque (Known (cell_in r.design.cells s)))
+        slot : (s : ℕ) → FreshSlot total s → (b : Bool) → ltb s tickets ≡ b → SourceNets (Fresh total) (cond b None (Some (cell_in r.design.cells s)))
         slot s q true e = tt
         slot s (inl i) false e = absurd (omega (arith, i.0, ltb-false s tickets e))
         slot s (inr p) false e =

@@ -8,11 +8,10 @@ use native.Mathlib.Omega.{arith}
 use lib.Dec.{ltb}
 use lib.ListN.{length, take}
 use borrow.Author.Tests.{ltb-false, eq-eqb}
+use Rattle.std.specs.Prelude.{Ok}
 use Rattle.cell.specs.Records.{records_of}
 use Rattle.loops.proofs.Rank.{rank}
-use Rattle.refusals.specs.declared.Verdict.{Verdict}
-use Rattle.refusals.specs.declared.Verdict.TheVariants.{Pass}
-use Rattle.refusals.specs.Refusals.{first_of}
+use Rattle.refusals.specs.Refusals.{first_of, Verdict}
 use Rattle.checking.specs.Checking.{work_stage, length_stage, check_stages}
 use Rattle.refusals.proofs.Stages.{first_passes, passes-both, passed-exactly}
 use Rattle.netlist.specs.Netlist.{Netlist, netlist_of}
@@ -20,7 +19,6 @@ use Rattle.order.specs.Orders.{topo_sort}
 use Rattle.design.specs.Queue.{find_new_cell}
 use Rattle.rewrite.specs.Rewriter.{Lookup}
 use Rattle.rewrite.specs.Rewrite.{run, slots_of, rewrite}
-use Rattle.calls.specs.declared.Written.TheVariants as written
 use Rattle.calls.specs.Calls.{decoded, encoded, check_verdict, rewrite_run, rewrite_bytes, rewrite_stages, rewrite_verdict, rewrite_answer, rewrite_reply}
 use Rattle.rewrite_laws.proofs.Running.{RunOk}
 use Rattle.accepted_laws.proofs.Accepted.{accepted-wired, accepted-run}
@@ -28,13 +26,14 @@ use Rattle.kept.specs.Kept.{Bytes}
 use Rattle.kept.proofs.Sound.{Sound}
 use Rattle.kept.proofs.Tickets.{ticket-work, ticket-sound, ticket-passes}
 use Rattle.kept.proofs.Bytes.{Labelled, netlist-back, encoded-count, encoded-passes, encoded-records, encoded-whole}
-use Rattle.kept.proofs.Calls.{ticket-labelled, written_count, written-first}
+use Rattle.kept.proofs.Calls.{ticket-labelled, written-first}
+use Rattle.calls.proofs.Answers.{answered}
 use Rattle.rewrite_sound.specs.Rewritten.{stages_but_size, Rewritten}
 use Rattle.rewrite_sound.proofs.Result.{Ran, ran-by, rewrite-ranks, rewrite-sound, rewrite-shorter, rewrite-labelled}
 use Rattle.rewrite_sound.proofs.Encoded.{encoded-bytes}
 
 -- a sound netlist as a ticket
-passes-but-size : (words : ℕ) → ltb words 16384 ≡ false → (d : Netlist) (g : ℕ → ℕ) (good : Sound d g) → Labelled d → first_of (stages_but_size words (encoded d)) ≡ Pass
+passes-but-size : (words : ℕ) → ltb words 16384 ≡ false → (d : Netlist) (g : ℕ → ℕ) (good : Sound d g) → Labelled d → first_of (stages_but_size words (encoded d)) ≡ Ok tt
 unfolding stages_but_size
 passes-but-size words enough d g good labelled =
     first_passes (work_stage words) _ enough
@@ -46,7 +45,7 @@ abbrev pub RunsOn : Lookup → List ℕ → Type 0
 RunsOn look t = RunOk (decoded t).cells (topo_sort (decoded t).cells) (run look (decoded t).cells)
 
 -- an accepted ticket
-module _ (words : ℕ) (t : List ℕ) (pass : check_verdict words t ≡ Pass) where
+module _ (words : ℕ) (t : List ℕ) (pass : check_verdict words t ≡ Ok tt) where
   -- the Rust's look-up is one
   pub rust-runs : RunsOn find_new_cell t
   unfolding netlist_of
@@ -80,21 +79,21 @@ module _ (words : ℕ) (t : List ℕ) (pass : check_verdict words t ≡ Pass) wh
         }
 
 -- over the definition of the result, with the Rust's look-up
-pub rewrite-gives : (words : ℕ) (t : List ℕ) → Bytes t → check_verdict words t ≡ Pass → slots_of (rewrite_run find_new_cell t) ≤ 1024
+pub rewrite-gives : (words : ℕ) (t : List ℕ) → Bytes t → check_verdict words t ≡ Ok tt → slots_of (rewrite_run find_new_cell t) ≤ 1024
     → Rewritten find_new_cell words t (rewrite_bytes find_new_cell t)
 rewrite-gives words t bytes pass few = ticket-rewritten words t pass find_new_cell (rust-runs words t pass) few bytes
 
 -- over the call: where it answers with a count, that many bytes of the reply are such a ticket
-module _ (look : Lookup) (words : ℕ) (t reply : List ℕ) (runs : check_verdict words t ≡ Pass → RunsOn look t) where
-  pub rewrite-call-by : (n : ℕ) → Bytes t → rewrite_answer look words t reply ≡ written.Accepted n → Rewritten look words t (take n (rewrite_reply look words t reply))
+module _ (look : Lookup) (words : ℕ) (t reply : List ℕ) (runs : check_verdict words t ≡ Ok tt → RunsOn look t) where
+  pub rewrite-call-by : (n : ℕ) → Bytes t → rewrite_answer look words t reply ≡ Ok n → Rewritten look words t (take n (rewrite_reply look words t reply))
   unfolding rewrite_answer rewrite_reply rewrite_verdict rewrite_stages check_verdict
   rewrite-call-by n bytes e =
       let v : Verdict = rewrite_verdict look words t reply in
-      let a = written_count v (length (rewrite_bytes look t)) n e in
+      let a = answered v (length (rewrite_bytes look t)) n e in
       let stages = passes-both (check_stages words t) (rewrite_stages look t reply) a.0 in
       let few : slots_of (rewrite_run look t) ≤ 1024 = ltb-false 1024 (slots_of (rewrite_run look t)) ((passed-exactly (rewrite_stages look t reply)).0 stages.1 0 (omega arith)) in
       subst (Rewritten look words t) (sym (written-first v reply (rewrite_bytes look t) n a.0 a.1)) (ticket-rewritten words t stages.0 look (runs stages.0) few bytes)
 
-pub rewrite-call : (words : ℕ) (t reply : List ℕ) (n : ℕ) → Bytes t → rewrite_answer find_new_cell words t reply ≡ written.Accepted n
+pub rewrite-call : (words : ℕ) (t reply : List ℕ) (n : ℕ) → Bytes t → rewrite_answer find_new_cell words t reply ≡ Ok n
     → Rewritten find_new_cell words t (take n (rewrite_reply find_new_cell words t reply))
 rewrite-call words t reply = rewrite-call-by find_new_cell words t reply (rust-runs words t)

@@ -16,10 +16,8 @@ use Rattle.cell.specs.declared.Cell.TheVariants.{Input}
 use Rattle.netlist.specs.Shape.{visit, visit_mut, has_effects, is_splittable}
 use Rattle.netlist.specs.Netlist.{cell_in}
 use Rattle.order.specs.Orders.{topo_sort}
-use Rattle.design.specs.declared.Source.{Source}
-use Rattle.design.specs.declared.Source.TheVariants.{Opaque, Known}
-use Rattle.numberer.specs.declared.Found.TheVariants.{At}
-use Rattle.design.specs.Queue.{Design, net_in, unchanged, map_net_new, replace_net, replace_cell}
+use Rattle.std.specs.Prelude.{None, Some}
+use Rattle.design.specs.Queue.{Design, net_in, unchanged, map_net_new, replace_net, replace_cell, Source}
 use Rattle.numberer.specs.Numberer.{Entry, seek}
 use Rattle.rewrite.specs.Rewriter.{Rewriter, Lookup, begun, find_cell, entered, finished}
 use Rattle.rewrite.specs.Rewrite.{Result, none, cell, value, spent, Added, at, unadded, process_cell, add_cell, Run, bit_done, cell_done, run_item, run}
@@ -44,8 +42,8 @@ any-nets : (ns : List Net) → All Any ns
 any-nets = all-every Any (λ n. tt)
 
 any-source : (src : Source) → SourceNets Any src
-any-source Opaque = tt
-any-source (Known c) = any-nets (visit c)
+any-source None = tt
+any-source (Some c) = any-nets (visit c)
 
 -- a cell that is rewritten in its slot: an and-inverter
 abbrev pub InPlace : Cell → Type 0
@@ -74,13 +72,13 @@ module _ (cs₀ : List Cell) where
     pub olds : (i : ℕ) → i < n → Holds (cell_in cs₀ i) (cell_in r.design.cells i)
     pub adds : (i : ℕ) → n ≤ i → i < length r.design.cells → (has_effects (cell_in r.design.cells i) ≡ false) × (0 < get_or r.stamps i 0)
     pub ports : (i : ℕ) → i < n → has_effects (cell_in cs₀ i) ≡ true → get_or r.stamps i 0 ≡ 0
-    pub cached : (c : Cell) (m : Net) → seek r.cache c ≡ At m → has_effects c ≡ false
+    pub cached : (c : Cell) (m : Net) → seek r.cache c ≡ Some m → has_effects c ≡ false
 
-  cached-more : (es : List Entry) → ((c : Cell) (m : Net) → seek es c ≡ At m → has_effects c ≡ false) → (x : Cell) (y : Net) → has_effects x ≡ false
-      → (c : Cell) (m : Net) → seek (es ++ ((x, y) ∷ [])) c ≡ At m → has_effects c ≡ false
+  cached-more : (es : List Entry) → ((c : Cell) (m : Net) → seek es c ≡ Some m → has_effects c ≡ false) → (x : Cell) (y : Net) → has_effects x ≡ false
+      → (c : Cell) (m : Net) → seek (es ++ ((x, y) ∷ [])) c ≡ Some m → has_effects c ≡ false
   cached-more es h x y g c m e = go (seek-snoc es (x, y) c m e)
     where
-      go : (seek es c ≡ At m) ⊎ ((x ≡ c) × (y ≡ m)) → has_effects c ≡ false
+      go : (seek es c ≡ Some m) ⊎ ((x ≡ c) × (y ≡ m)) → has_effects c ≡ false
       go (inl f) = h c m f
       go (inr f) = ap has_effects (sym f.0) ∙ g
 
@@ -114,7 +112,7 @@ module _ (cs₀ : List Cell) where
   module _ (r : Rewriter) (h : Shaped r) (s : ℕ) (small : s < n) (gate : has_effects (cell_in cs₀ s) ≡ false) where
     finished-shaped : (d : Design) (es : List Entry) → length d.cells ≡ length r.design.cells
         → ((i : ℕ) → (i ≡ s → ⊥) → cell_in d.cells i ≡ cell_in r.design.cells i) → Holds (cell_in cs₀ s) (cell_in d.cells s)
-        → ((c : Cell) (m : Net) → seek es c ≡ At m → has_effects c ≡ false) → Shaped (finished r s d es)
+        → ((c : Cell) (m : Net) → seek es c ≡ Some m → has_effects c ≡ false) → Shaped (finished r s d es)
     unfolding finished
     finished-shaped d es len cells here cached =
         let ts : List ℕ = r.stamps in

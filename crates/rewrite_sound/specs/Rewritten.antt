@@ -1,7 +1,6 @@
 -- What the result of rewriting a ticket is. Assumes nothing: these are definitions.
-use Rattle.std.specs.Prelude.{◌≡◌, List, ◌∷◌, ℕ, ◌/◌, ◌%◌, ◌≤◌, length}
+use Rattle.std.specs.Prelude.{◌≡◌, List, ◌∷◌, ℕ, ◌/◌, ◌%◌, ◌≤◌, length, Ok}
 use Rattle.cell.specs.Records.{records_of}
-use Rattle.refusals.specs.declared.Verdict.TheVariants.{Pass}
 use Rattle.refusals.specs.Refusals.{Stage, first_of}
 use Rattle.checking.specs.Checking.{work_stage, length_stage, netlist_stages}
 use Rattle.rewrite.specs.Rewriter.{Lookup}
@@ -19,6 +18,6 @@ pub record Rewritten (look : Lookup) (words : ℕ) (t u : List ℕ) : Type 0 whe
   pub bytes : Bytes u
   pub whole : length u % 16 ≡ 0
   pub fewer : length u / 16 ≤ slots_of (rewrite_run look t)
-  pub passes : first_of (stages_but_size words u) ≡ Pass
-  pub accepted : length u / 16 ≤ 512 → check_verdict words u ≡ Pass
+  pub passes : first_of (stages_but_size words u) ≡ Ok tt
+  pub accepted : length u / 16 ≤ 512 → check_verdict words u ≡ Ok tt
   pub back : decoded u ≡ rewrite look (decoded t)

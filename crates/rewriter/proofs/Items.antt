@@ -38,12 +38,14 @@ use Rattle.rewriter_state.specs.declared.Added.{Added}
 use Rattle.rewriter_state.specs.declared.Added.TheVariants as added
 use Rattle.rewriter_cycle.specs.declared.Processed.{Processed}
 use Rattle.rewriter_cycle.specs.declared.Processed.TheVariants as processed
-use Rattle.rewriter.specs.declared.Step.{Step}
-use Rattle.rewriter.specs.declared.Step.TheVariants as step
 use Rattle.rewriter_state.specs.inner.Words.{rewriter_in, Held, ReadySlot, Finishes, Replaces, Stays, Becomes}
 use Rattle.rewriter_cycle.specs.inner.Cycle.{slots_after, slots_added, Left, Answers, AnswersAdd, Processes, Adds}
 use Rattle.rewriter_cycle.proofs.Passes.{held-few}
-use Rattle.rewriter.specs.inner.Run.{Between, Went, Goes, ReadyCell, ReadyItem, ReadyItems, RunsBit, RunsCell, RunsItem, RunsItems}
+use Rattle.rewriter.specs.inner.Run.{Step, Between, Went, Goes, ReadyCell, ReadyItem, ReadyItems, RunsBit, RunsCell, RunsItem, RunsItems}
+use Rattle.std.proofs.Common.{Ok, Err}
+use Rattle.std.specs.Result.{IsErr}
+use Rattle.rewriter.specs.declared.Full.{Full}
+use Rattle.rewriter.proofs.NoSlot.{no_slot}
 
 -- from one extent to another
 pub between_none : (x : Extent) (ws : List ℕ) → Held x ws → Between x x ws ws
@@ -143,13 +145,13 @@ module _ (x : Extent) (ws ws₁ : List ℕ) (c : Cell) (a : Added) (p : Adds x w
     pub added-ready : (s : ℕ) → ReadyCell x s ws c → ReadySlot x₁ s ws₁
     added-ready s g = left-ready x x₁ ws ws₁ added-left s g.slot
 
-    pub bit-on : (s : ℕ) (x₂ : Extent) (ws₂ : List ℕ) → Replaces s x₁ x₂ ws₁ ws₂ n → RunsBit x s ws ws₂ c (step.On x₂)
+    pub bit-on : (s : ℕ) (x₂ : Extent) (ws₂ : List ℕ) → Replaces s x₁ x₂ ws₁ ws₂ n → RunsBit x s ws ws₂ c (Ok x₂)
     bit-on s x₂ ws₂ f =
         let r : Rewriter = rewriter_in x₁ ws₁ in
         record { said = finish-went x x₁ x₂ ws ws₁ ws₂ s (replace_net r.design s n) r.cache added-at.1 f _ (ap (bit_done s) added-at.0) }
 
-  pub bit-full : (s : ℕ) → a ≡ added.Full → RunsBit x s ws ws₁ c step.Full
-  bit-full s e =
+  pub bit-full : (s : ℕ) (u : Full) → a ≡ added.Full → RunsBit x s ws ws₁ c (Err u)
+  bit-full s u e =
       let y : rewriting.Added = add_cell find_new_cell (rewriter_in x ws) c in
       let k : (1024 < slots_added y) × Within 0 keys_from ws ws₁ = subst (λ (b : Added). AnswersAdd x ws ws₁ b y) e added-said in
       record { said = (omega (arith, k.0, slots-bit s y), k.1) }
@@ -170,7 +172,7 @@ module _ (x : Extent) (ws ws₁ : List ℕ) (c : Cell) (a : Processed) (p : Proc
     pub none-ready : (s : ℕ) → ReadyCell x s ws c → ReadySlot x₁ s ws₁
     none-ready s g = left-ready x x₁ ws ws₁ none_left s g.slot
 
-    pub none-on : (s : ℕ) → ReadyCell x s ws c → (x₂ : Extent) (ws₂ : List ℕ) → Stays s x₁ x₂ ws₁ ws₂ c → RunsCell x s ws ws₂ c (step.On x₂)
+    pub none-on : (s : ℕ) → ReadyCell x s ws c → (x₂ : Extent) (ws₂ : List ℕ) → Stays s x₁ x₂ ws₁ ws₂ c → RunsCell x s ws ws₂ c (Ok x₂)
     none-on s g x₂ ws₂ f =
         let r : Rewriter = rewriter_in x₁ ws₁ in
         let es : List Entry = r.cache ++ ((c, net_in s) ∷ []) in
@@ -186,7 +188,7 @@ module _ (x : Extent) (ws ws₁ : List ℕ) (c : Cell) (a : Processed) (p : Proc
     pub cell-ready : (s : ℕ) → ReadyCell x s ws c → ReadySlot x₁ s ws₁
     cell-ready s g = left-ready x x₁ ws ws₁ cell-left s g.slot
 
-    pub cell-on : (s : ℕ) (x₂ : Extent) (ws₂ : List ℕ) → Becomes s x₁ x₂ ws₁ ws₂ d → RunsCell x s ws ws₂ c (step.On x₂)
+    pub cell-on : (s : ℕ) (x₂ : Extent) (ws₂ : List ℕ) → Becomes s x₁ x₂ ws₁ ws₂ d → RunsCell x s ws ws₂ c (Ok x₂)
     cell-on s x₂ ws₂ f =
         let r : Rewriter = rewriter_in x₁ ws₁ in
         record {
@@ -201,7 +203,7 @@ module _ (x : Extent) (ws ws₁ : List ℕ) (c : Cell) (a : Processed) (p : Proc
     pub value-ready : (s : ℕ) → ReadyCell x s ws c → ReadySlot x₁ s ws₁
     value-ready s g = left-ready x x₁ ws ws₁ value-left s g.slot
 
-    pub value_on : (s : ℕ) (x₂ : Extent) (ws₂ : List ℕ) → Replaces s x₁ x₂ ws₁ ws₂ n → RunsCell x s ws ws₂ c (step.On x₂)
+    pub value_on : (s : ℕ) (x₂ : Extent) (ws₂ : List ℕ) → Replaces s x₁ x₂ ws₁ ws₂ n → RunsCell x s ws ws₂ c (Ok x₂)
     value_on s x₂ ws₂ f =
         let r : Rewriter = rewriter_in x₁ ws₁ in
         record {
@@ -209,8 +211,8 @@ module _ (x : Extent) (ws ws₁ : List ℕ) (c : Cell) (a : Processed) (p : Proc
               (ap (cell_done s c) (processed-as (processed.Value n x₁) e).0);
         }
 
-  pub cell_full : (s : ℕ) → a ≡ processed.Full → RunsCell x s ws ws₁ c step.Full
-  cell_full s e =
+  pub cell_full : (s : ℕ) (u : Full) → a ≡ processed.Full → RunsCell x s ws ws₁ c (Err u)
+  cell_full s u e =
       let y : rewriting.Result = process_cell find_new_cell (rewriter_in x ws) c in
       let k = processed-as processed.Full e in
       record { said = (omega (arith, k.0, slots-cell s c y), k.1) }
@@ -261,7 +263,7 @@ module _ (x : Extent) (s : ℕ) (ws : List ℕ) (g : ReadyItem x s ws) where
             c-settled cs g.wired before s inside g.new g.fed r (λ few. g.running.state) (ap has_effects (sym c-is) ∙ sym b-is ∙ e)
             (held-few x ws g.running.held)
 
-    pub item-effects : b ≡ true → RunsItem x s ws ws (step.On x)
+    pub item-effects : b ≡ true → RunsItem x s ws ws (Ok x)
     item-effects e = record {
       said = record {
         now = item_by find_new_cell s r (λ z. z ≡ ran r) (λ b f. never effects f)
@@ -335,7 +337,7 @@ module _ (x₀ : Extent) (k : ℕ) (ws₀ ws : List ℕ) (x : Extent) (j : ℕ) 
   abbrev done : List ℕ
   done = words_in order_at j ws₀
 
-  pub rolling-end : k ≤ j → RunsItems x₀ k ws₀ ws (step.On x)
+  pub rolling-end : k ≤ j → RunsItems x₀ k ws₀ ws (Ok x)
   rolling-end h =
       let e : j ≡ k = let l : j ≤ k = g.upto in omega arith in
       record { said = subst (λ (i : ℕ). Went i x₀ x ws₀ ws (run_items find_new_cell (words_in order_at i ws₀) (rewriter_in x₀ ws₀))) e g.went }
@@ -385,48 +387,45 @@ module _ (x₀ : Extent) (k : ℕ) (ws₀ ws : List ℕ) (x : Extent) (j : ℕ) 
         fed = item-fed;
       })
 
-      module _ (ws' : List ℕ) (y : Step) (p : RunsItem x s ws ws' y) where
-        item-said : (z : Step) → y ≡ z → Goes 1 x ws ws' (run_item find_new_cell item (rewriter_in x ws)) z
-        item-said z e =
-            subst (λ (i : ℕ). Goes 1 x ws ws' (run_item find_new_cell i (rewriter_in x ws)) z) is-item
-            (subst (λ (z : Step). Goes 1 x ws ws' (run_item find_new_cell s (rewriter_in x ws)) z) e p.said)
+      one_more : words_in order_at (j + 1) ws₀ ≡ done ++ (item ∷ [])
+      unfolding words_in tabulate
+      one_more = ap (tabulate (λ i. get_or ws₀ (order_at + i) 0)) (let e : j + 1 ≡ suc j = omega arith in e)
 
-        one_more : words_in order_at (j + 1) ws₀ ≡ done ++ (item ∷ [])
-        unfolding words_in tabulate
-        one_more = ap (tabulate (λ i. get_or ws₀ (order_at + i) 0)) (let e : j + 1 ≡ suc j = omega arith in e)
+      item-said : (ws' : List ℕ) (y : Step) → RunsItem x s ws ws' y → Goes 1 x ws ws' (run_item find_new_cell item (rewriter_in x ws)) y
+      item-said ws' y p = subst (λ (i : ℕ). Goes 1 x ws ws' (run_item find_new_cell i (rewriter_in x ws)) y) is-item p.said
 
-        pub rolling-more : (x' : Extent) → y ≡ step.On x' → Rolling x₀ k ws₀ ws' x' (j + 1)
-        rolling-more x' e =
-            let w : Went 1 x x' ws ws' (run_item find_new_cell item (rewriter_in x ws)) = item-said (step.On x') e in
-            record {
-              ready = g.ready;
-              upto = omega arith;
-              went = record {
-                now = ap (λ (xs : List ℕ). run_items find_new_cell xs (rewriter_in x₀ ws₀)) one_more
-                    ∙ items-cut find_new_cell done (item ∷ []) (rewriter_in x₀ ws₀) (rewriter_in x ws) g.went.now ∙ items-one find_new_cell item (rewriter_in x ws) (rewriter_in x' ws') w.now;
-                left = between-on x₀ x x' ws₀ ws ws' g.went.left w.left;
-                clock = omega (arith, g.went.clock, w.clock);
-              };
-              state = subst (λ (xs : List ℕ). State g.ready.ticket xs (rewriter_in x' ws')) (sym one_more) (state-after x' w);
-            }
-          where
-            state-after : (x' : Extent) → Went 1 x x' ws ws' (run_item find_new_cell item (rewriter_in x ws)) → State g.ready.ticket (done ++ (item ∷ [])) (rewriter_in x' ws')
-            state-after x' w =
-                subst (RunOk g.ready.ticket (done ++ (item ∷ []))) w.now
-                (item_ok g.ready.ticket g.ready.wired done item item-small item-new item-fed (rewriter_in x ws) (λ few. g.state))
-                (held-few x' ws' w.left.held)
+      pub rolling-more : (ws' : List ℕ) (x' : Extent) → RunsItem x s ws ws' (Ok x') → Rolling x₀ k ws₀ ws' x' (j + 1)
+      rolling-more ws' x' p =
+          let w : Went 1 x x' ws ws' (run_item find_new_cell item (rewriter_in x ws)) = item-said ws' (Ok x') p in
+          record {
+            ready = g.ready;
+            upto = omega arith;
+            went = record {
+              now = ap (λ (xs : List ℕ). run_items find_new_cell xs (rewriter_in x₀ ws₀)) one_more
+                  ∙ items-cut find_new_cell done (item ∷ []) (rewriter_in x₀ ws₀) (rewriter_in x ws) g.went.now ∙ items-one find_new_cell item (rewriter_in x ws) (rewriter_in x' ws') w.now;
+              left = between-on x₀ x x' ws₀ ws ws' g.went.left w.left;
+              clock = omega (arith, g.went.clock, w.clock);
+            };
+            state = subst (λ (xs : List ℕ). State g.ready.ticket xs (rewriter_in x' ws')) (sym one_more) (state-after x' w);
+          }
+        where
+          state-after : (x' : Extent) → Went 1 x x' ws ws' (run_item find_new_cell item (rewriter_in x ws)) → State g.ready.ticket (done ++ (item ∷ [])) (rewriter_in x' ws')
+          state-after x' w =
+              subst (RunOk g.ready.ticket (done ++ (item ∷ []))) w.now
+              (item_ok g.ready.ticket g.ready.wired done item item-small item-new item-fed (rewriter_in x ws) (λ few. g.state))
+              (held-few x' ws' w.left.held)
 
-        pub rolling-full : y ≡ step.Full → RunsItems x₀ k ws₀ ws' step.Full
-        rolling-full e =
-            let q : (1024 < slots_of (run_item find_new_cell item (rewriter_in x ws))) × Within 0 keys_from ws ws' = item-said step.Full e in
-            record {
-              said = (
-                subst (λ (z : Run). 1024 < slots_of z) (sym whole)
-                    (omega (arith, q.0, after-slots find_new_cell (length g.ready.ticket) cut.0 rest-small (run_item find_new_cell item (rewriter_in x ws)))),
-                record {
-                  before = λ i h. absurd (omega arith);
-                  after = λ i h. q.1.after i h ∙ g.went.left.after i h;
-                  same = q.1.same ∙ g.went.left.same;
-                },
-              );
-            }
+      pub rolling-full : (ws' : List ℕ) (e : Full) (y : Step) → RunsItem x s ws ws' (Err e) → IsErr y → RunsItems x₀ k ws₀ ws' y
+      rolling-full ws' e y p f =
+          let q : (1024 < slots_of (run_item find_new_cell item (rewriter_in x ws))) × Within 0 keys_from ws ws' = item-said ws' (Err e) p in
+          no_slot (RunsItems x₀ k ws₀ ws') (λ u. record {
+            said = (
+              subst (λ (z : Run). 1024 < slots_of z) (sym whole)
+                  (omega (arith, q.0, after-slots find_new_cell (length g.ready.ticket) cut.0 rest-small (run_item find_new_cell item (rewriter_in x ws)))),
+              record {
+                before = λ i h. absurd (omega arith);
+                after = λ i h. q.1.after i h ∙ g.went.left.after i h;
+                same = q.1.same ∙ g.went.left.same;
+              },
+            );
+          }) y f

@@ -1,3 +1,4 @@
+pub mod NoSlot
 pub mod Items
 pub mod Applying
 pub mod Runs

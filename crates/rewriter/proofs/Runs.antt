@@ -7,11 +7,11 @@ use native.Mathlib.Omega.{arith}
 use native.Mathlib.Decide.{dec_lt}
 use lib.ListN.{length, get_or, replicate, length-append, length-replicate, get_or-eq_default}
 use lib.Seq.{ext_get_or}
+use Rattle.std.specs.Prelude.{Ok}
 use Rattle.cell.specs.declared.Record.{Record}
 use Rattle.cell.specs.declared.Cell.{Cell}
 use Rattle.cell.specs.Records.{cell_of}
 use Rattle.basics.specs.Lists.{tabulate, has}
-use Rattle.refusals.specs.declared.Verdict.TheVariants.{Pass}
 use Rattle.refusals.specs.Refusals.{first_of}
 use Rattle.checking.specs.Checking.{netlist_stages}
 use Rattle.netlist.specs.inner.Areas.{word_record, records_in, words_in, order_at, Within, figures_at, keys_from, mixes_at, replaced_at, visited_at}
@@ -35,13 +35,14 @@ use Rattle.rewrite_laws.proofs.Running.{RunOk, begun-state}
 use Rattle.rewrite_laws.specs.State.{State}
 use Rattle.accepted_laws.proofs.Accepted.{accepted-wired, accepted-each, accepted-fed, accepted-run}
 use Rattle.rewriter_state.specs.declared.Extent.{Extent}
-use Rattle.rewriter.specs.declared.Step.{Step}
-use Rattle.rewriter.specs.declared.Step.TheVariants as step
-use Rattle.rewriter.specs.declared.Rewritten.TheVariants as rewritten
+use Rattle.rewriter.specs.declared.Full.{Full}
+use Rattle.std.proofs.Common.{Result, Ok, Err}
+use Rattle.std.specs.Result.{IsErr}
+use Rattle.rewriter.proofs.NoSlot.{no_slot}
 use Rattle.rewriter_state.specs.inner.Words.{rewriter_in, Held, ClearsStamps}
 use Rattle.rewriter_cycle.specs.inner.Cycle.{Running}
 use Rattle.rewriter_cycle.proofs.Passes.{held-few}
-use Rattle.rewriter.specs.inner.Run.{Went, Goes, ReadyItems, RunsItems, first, Begins, AppliesAll, Rewrites}
+use Rattle.rewriter.specs.inner.Run.{Went, ReadyItems, RunsItems, first, Begins, AppliesAll, Rewrites}
 use Rattle.rewriter.proofs.Items.{between-frame}
 
 netlist-of : (d : Netlist) (cs : List Cell) (bits : List ℕ) → d.cells ≡ cs → d.bits ≡ bits → d ≡ record { cells = cs; bits = bits }
@@ -102,7 +103,7 @@ module _ (n : ℕ) (ws₀ ws₁ ws₂ ws₃ : List ℕ) (count : ℕ) (sorted : 
   }
 
 -- an accepted ticket, begun
-module _ (n : ℕ) (ws₀ ws₃ : List ℕ) (count : ℕ) (b : Begins n ws₀ ws₃ count) (accepted : first_of (netlist_stages (records_in n ws₀)) ≡ Pass) (few : n ≤ 512)
+module _ (n : ℕ) (ws₀ ws₃ : List ℕ) (count : ℕ) (b : Begins n ws₀ ws₃ count) (accepted : first_of (netlist_stages (records_in n ws₀)) ≡ Ok tt) (few : n ≤ 512)
     (long : 16384 ≤ length ws₀) where
   abbrev rs : List Record
   rs = records_in n ws₀
@@ -154,18 +155,15 @@ module _ (n : ℕ) (ws₀ ws₃ : List ℕ) (count : ℕ) (b : Begins n ws₀ ws
       ap (λ (ss : List ℕ). run_items find_new_cell ss (begun (netlist_in n ws₀).cells)) (sym b.order)
       ∙ ap (run_items find_new_cell (words_in order_at count ws₃)) (sym b.state)
 
-  module _ (ws₄ : List ℕ) (y : Step) (p : RunsItems (record { tickets = n; slots = n; entries = 0; clock = 0 }) count ws₃ ws₄ y) where
-    run-said : (z : Step) → y ≡ z → Goes count (first n) ws₃ ws₄ (run_items find_new_cell (words_in order_at count ws₃) (rewriter_in (first n) ws₃)) z
-    run-said z e = subst (λ (z : Step). Goes count (first n) ws₃ ws₄ (run_items find_new_cell (words_in order_at count ws₃) (rewriter_in (first n) ws₃)) z) e p.said
+  module _ (ws₄ : List ℕ) where
+    pub run-full : (e : Full) (r : Result ℕ Full) → RunsItems (record { tickets = n; slots = n; entries = 0; clock = 0 }) count ws₃ ws₄ (Err e) → IsErr r → Rewrites n ws₀ ws₄ r
+    run-full e r p f =
+        let k = p.said in
+        no_slot (Rewrites n ws₀ ws₄) (λ u. (subst (λ (z : Run). 1024 < slots_of z) (sym run_is) k.0, within-then 0 keys_from ws₀ ws₃ ws₄ b.frame k.1)) r f
 
-    pub run-full : y ≡ step.Full → Rewrites n ws₀ ws₄ rewritten.Full
-    run-full e =
-        let k = run-said step.Full e in
-        (subst (λ (z : Run). 1024 < slots_of z) (sym run_is) k.0, within-then 0 keys_from ws₀ ws₃ ws₄ b.frame k.1)
-
-    module _ (x : Extent) (e : y ≡ step.On x) where
+    module _ (x : Extent) (p : RunsItems (record { tickets = n; slots = n; entries = 0; clock = 0 }) count ws₃ ws₄ (Ok x)) where
       went : Went count (first n) x ws₃ ws₄ (run_items find_new_cell (words_in order_at count ws₃) (rewriter_in (first n) ws₃))
-      went = run-said (step.On x) e
+      went = p.said
 
       run_ran : run find_new_cell (netlist_in n ws₀).cells ≡ ran (rewriter_in x ws₄)
       run_ran = run_is ∙ went.now
@@ -200,7 +198,7 @@ module _ (n : ℕ) (ws₀ ws₃ : List ℕ) (count : ℕ) (b : Begins n ws₀ ws
           (λ i h. let l : i < x.slots = omega (arith, h, bits-length x.slots ws₄) in
           bit_at x.slots ws₄ i l ∙ bit-same i l (dec_lt i n) ∙ sym (get_d-padded bits k i 0))
 
-      pub run-rewritten : (ws₅ : List ℕ) → AppliesAll x ws₄ ws₅ → Rewrites n ws₀ ws₅ (rewritten.To x.slots)
+      pub run-rewritten : (ws₅ : List ℕ) → AppliesAll x ws₄ ws₅ → Rewrites n ws₀ ws₅ (Ok x.slots)
       unfolding rewrite
       run-rewritten ws₅ a = record {
         taken = ap slots_of run_ran ∙ taken_is;

@@ -1,17 +1,16 @@
 // `Rewriter::run`: the items of the bit order one after another, and the changes applied.
-ghost use Rattle.std.specs.Prelude.{◌≡◌, ◌≤◌, ◌<◌, length};
+ghost use Rattle.std.specs.Prelude.{◌≡◌, ◌≤◌, ◌<◌, length, Ok};
 ghost use Rattle.netlist.specs.inner.Areas.{records_in};
 ghost use Rattle.netlist.specs.Netlist.{cell_in};
 ghost use Rattle.netlist.specs.Shape.{visit_mut, is_splittable};
 ghost use Rattle.design.specs.Queue.{map_net_new};
-ghost use Rattle.refusals.specs.declared.Verdict.TheVariants.{Pass};
 ghost use Rattle.refusals.specs.Refusals.{first_of};
 ghost use Rattle.checking.specs.Checking.{netlist_stages};
 ghost use Rattle.rewriter_state.specs.inner.Words.{rewriter_in};
 ghost use Rattle.rewriter_cycle.specs.inner.Cycle.{Running};
 ghost use Rattle.rewriter.specs.inner.Run.{ReadyCell, ReadyItem, ReadyItems, RunsBit, RunsCell, RunsItem, RunsItems, AppliesAll, Begins, Rewrites};
 
-use crate::{Rewritten, Step};
+use crate::Full;
 use cell::Cell;
 use netlist::area;
 use rewriter_cycle::Processed;
@@ -21,17 +20,7 @@ use value::Slot;
 fn is_splittable(c: Cell) -> bool
     ensures { result ≡ is_splittable c }
 {
-    match c {
-        Cell::Input(_) => false,
-        Cell::Output(_, _) => false,
-        Cell::Buf(_) => true,
-        Cell::Not(_) => true,
-        Cell::And(_, _) => true,
-        Cell::Or(_, _) => true,
-        Cell::Xor(_, _) => true,
-        Cell::Mux(_, _, _) => true,
-        Cell::Aig(_, _) => false,
-    }
+    !matches!(c, Cell::Input(_) | Cell::Output(_, _) | Cell::Aig(_, _))
 }
 
 // The cell of a slot with the nets that its operands are replaced by.
@@ -40,40 +29,40 @@ fn mapped_cell(work: &[u32], x: Extent, s: Slot) -> Cell
     ensures { result ≡ visit_mut (map_net_new (rewriter_in x work.now).design.replaced) (cell_in (rewriter_in x work.now).design.cells s.0) }
 {
     let own = netlist::record_in(work, s);
-    cell::cell_of(design::queue::replaced_record(work, x.tickets, own))
+    Cell::from(design::queue::replaced_record(work, x.tickets, own))
 }
 
 // A bit of a gate that is cut into bits: it is added anew.
-fn run_bit(work: &mut [u32], x: Extent, s: Slot, c: Cell) -> Step
+fn run_bit(work: &mut [u32], x: Extent, s: Slot, c: Cell) -> Result<Extent, Full>
     requires { ReadyCell x s.0 work.old c }
     ensures { RunsBit x s.0 work.old work.new c result }
 {
     match rewriter_cycle::add_cell(work, x, c) {
-        Added::At(n, y) => Step::On(rewriter_state::replace(work, y, s, n)),
-        Added::Full => Step::Full,
+        Added::At(n, y) => Ok(rewriter_state::replace(work, y, s, n)),
+        Added::Full => Err(Full),
     }
 }
 
 // An and-inverter: it is rewritten in its slot.
-fn run_cell(work: &mut [u32], x: Extent, s: Slot, c: Cell) -> Step
+fn run_cell(work: &mut [u32], x: Extent, s: Slot, c: Cell) -> Result<Extent, Full>
     requires { ReadyCell x s.0 work.old c }
     ensures { RunsCell x s.0 work.old work.new c result }
 {
     match rewriter_cycle::process_cell(work, x, c) {
-        Processed::None(y) => Step::On(rewriter_state::stay(work, y, s, c)),
-        Processed::Cell(d, y) => Step::On(rewriter_state::become_cell(work, y, s, d)),
-        Processed::Value(n, y) => Step::On(rewriter_state::replace(work, y, s, n)),
-        Processed::Full => Step::Full,
+        Processed::None(y) => Ok(rewriter_state::stay(work, y, s, c)),
+        Processed::Cell(d, y) => Ok(rewriter_state::become_cell(work, y, s, d)),
+        Processed::Value(n, y) => Ok(rewriter_state::replace(work, y, s, n)),
+        Processed::Full => Err(Full),
     }
 }
 
-fn run_item(work: &mut [u32], x: Extent, s: Slot) -> Step
+fn run_item(work: &mut [u32], x: Extent, s: Slot) -> Result<Extent, Full>
     requires { ReadyItem x s.0 work.old }
     ensures { RunsItem x s.0 work.old work.new result }
 {
     let c = mapped_cell(work, x, s);
     if netlist::has_effects(c) {
-        return Step::On(x);
+        return Ok(x);
     }
     if is_splittable(c) {
         return run_bit(work, x, s, c);
@@ -82,21 +71,16 @@ fn run_item(work: &mut [u32], x: Extent, s: Slot) -> Step
 }
 
 // The items whose slots stand in the order area.
-fn run_items(work: &mut [u32], begun: Extent, count: u32) -> Step
+fn run_items(work: &mut [u32], begun: Extent, count: u32) -> Result<Extent, Full>
     requires { ReadyItems begun count work.old }
     ensures { RunsItems begun count work.old work.new result }
 {
     let mut x = begun;
-    let mut j: u32 = 0;
-    while j < count {
-        let s = basics::word(work, area::ORDER + (j as usize));
-        match run_item(work, x, Slot(s)) {
-            Step::On(y) => x = y,
-            Step::Full => return Step::Full,
-        }
-        j += 1;
+    for j in 0..count {
+        let s = basics::get_or(work, area::ORDER + (j as usize), 0);
+        x = run_item(work, x, Slot(s))?;
     }
-    Step::On(x)
+    Ok(x)
 }
 
 // Puts the replacements into all slots.
@@ -121,10 +105,10 @@ fn begin(work: &mut [u32], n: u32) -> u32
 }
 
 // `Design::rewrite` up to `compact`: the number of slots that it has taken.
-pub fn rewrite(work: &mut [u32], n: u32) -> Rewritten
+pub fn rewrite(work: &mut [u32], n: u32) -> Result<u32, Full>
     requires in_bounds { 16384 ≤ length work.old }
     requires n_bound { n ≤ 512 }
-    requires work_value { first_of (netlist_stages (records_in n work.old)) ≡ Pass }
+    requires work_value { first_of (netlist_stages (records_in n work.old)) ≡ Ok tt }
     ensures { Rewrites n work.old work.new result }
 {
     let count = begin(work, n);
@@ -134,11 +118,7 @@ pub fn rewrite(work: &mut [u32], n: u32) -> Rewritten
         entries: 0,
         clock: 0,
     };
-    match run_items(work, first, count) {
-        Step::On(x) => {
-            apply_all(work, x);
-            Rewritten::To(x.slots)
-        }
-        Step::Full => Rewritten::Full,
-    }
+    let x = run_items(work, first, count)?;
+    apply_all(work, x);
+    Ok(x.slots)
 }

@@ -8,10 +8,11 @@ use Rattle.value.specs.declared.ControlNet.TheVariants.{Pos, Neg}
 use Rattle.value.specs.Value.{le_net, le_control, net, is_negative, not_control}
 use Rattle.cell.specs.declared.Cell.{Cell}
 use Rattle.cell.specs.declared.Cell.TheVariants.{Input, Output, Buf, Not, And, Or, Xor, Mux, Aig}
-use Rattle.design.specs.declared.Source.{Source}
-use Rattle.normalize.specs.declared.Outcome.{Outcome}
-use Rattle.normalize.specs.declared.Outcome.TheVariants.{None, Value, Form, Add, NotOf, AddNotOf}
-use Rattle.normalize.specs.Outcomes.{given, from_control}
+use Rattle.std.specs.Prelude.{None, Some}
+use Rattle.design.specs.Queue.{Source}
+use Rattle.normalize.specs.declared.Change.{Change}
+use Rattle.normalize.specs.declared.Change.TheVariants.{Value, Form, Add, NotOf, AddNotOf}
+use Rattle.normalize.specs.Outcomes.{given, from_control, Outcome}
 use Rattle.normalize.specs.Normalize.{normalize}
 use Rattle.aig.specs.Aig.{differ, not_rule, xor_of, aig_order, aig_rule, xor_order, xor_rule, simple_aig_opt}
 use Rattle.aig_laws.proofs.Strings.{has-or_else, has-given}
@@ -35,11 +36,11 @@ module _ (look : Net → Source) where
   unfolding simple_aig_opt
   xor-arm a b src1 f src2 g o h = h ∙ ap₂ (λ (v w : Source). xor_rule v w a b) f g
 
-  pub and-arm : (a b : Net) → simple_aig_opt look (And a b) ≡ Add (Aig (Pos a) (Pos b))
+  pub and-arm : (a b : Net) → simple_aig_opt look (And a b) ≡ Some (Add (Aig (Pos a) (Pos b)))
   unfolding simple_aig_opt
   and-arm a b = refl
 
-  pub or-arm : (a b : Net) → simple_aig_opt look (Or a b) ≡ AddNotOf (Aig (Neg a) (Neg b))
+  pub or-arm : (a b : Net) → simple_aig_opt look (Or a b) ≡ Some (AddNotOf (Aig (Neg a) (Neg b)))
   unfolding simple_aig_opt
   or-arm a b = refl
 
@@ -63,8 +64,8 @@ module _ (look : Net → Source) where
 abbrev Unadding : Outcome → Type 0
 Unadding o = adds o ≡ false
 
-given-none : (t : Bool) (c : Cell) → Unadding (given t (Form c))
-given-none t c = has-given Unadding refl t (Form c) (λ e. refl)
+given-none : (t : Bool) (c : Cell) → Unadding (given t (Some (Form c)))
+given-none t c = has-given Unadding refl t (Some (Form c)) (λ e. refl)
 
 pub normalize-adds : (c : Cell) → adds (normalize c) ≡ false
 unfolding normalize
@@ -91,11 +92,11 @@ not-adds src n o e = ap adds e ∙ not-unadding src n (not_rule src n) (not_arm 
 -- those for and-inverters and xors add one for its inverse alone, never for its net
 abbrev adds_net : Outcome → Bool
 adds_net None = false
-adds_net (Value n) = false
-adds_net (Form c) = false
-adds_net (Add c) = true
-adds_net (NotOf c) = false
-adds_net (AddNotOf c) = true
+adds_net (Some (Value n)) = false
+adds_net (Some (Form c)) = false
+adds_net (Some (Add c)) = true
+adds_net (Some (NotOf c)) = false
+adds_net (Some (AddNotOf c)) = true
 
 abbrev Inverting : Outcome → Type 0
 Inverting o = adds_net o ≡ false
@@ -109,7 +110,7 @@ xor_of-inverting : (aa ab : ControlNet) → Inverting (xor_of aa ab)
 unfolding xor_of
 xor_of-inverting aa ab = go (differ (is_negative aa) (is_negative ab))
   where
-    go : (t : Bool) → Inverting (cond t (NotOf (Xor (net aa) (net ab))) (Form (Xor (net aa) (net ab))))
+    go : (t : Bool) → Inverting (cond t (Some (NotOf (Xor (net aa) (net ab)))) (Some (Form (Xor (net aa) (net ab)))))
     go true = refl
     go false = refl
 
@@ -164,36 +165,36 @@ module _ (look : Net → Source) where
       has-or_else Inverting (xor_order s t a b) (xor_order t s b a)
       (xor-inverting s t a b _ (xor_arm s t a b)) (xor-inverting t s b a _ (xor_arm t s b a))
 
--- so these outcomes are none of theirs
-module _ (o : Outcome) (d : Cell) where
-  no-net : o ≡ Add d → adds_net o ≡ false → ⊥
-  no-net e f = true≢false (sym (ap adds_net e) ∙ f)
+-- so these changes are none of theirs
+module _ (o : Outcome) (k : Change) (found : o ≡ Some k) (d : Cell) where
+  no-net : k ≡ Add d → adds_net o ≡ false → ⊥
+  no-net e f = true≢false (sym (ap adds_net (found ∙ ap Some e)) ∙ f)
 
-  no-inverse : o ≡ AddNotOf d → adds_net o ≡ false → ⊥
-  no-inverse e f = true≢false (sym (ap adds_net e) ∙ f)
+  no-inverse : k ≡ AddNotOf d → adds_net o ≡ false → ⊥
+  no-inverse e f = true≢false (sym (ap adds_net (found ∙ ap Some e)) ∙ f)
 
   module _ (look : Net → Source) where
-    pub aig-no-add : (p q : ControlNet) → o ≡ Add d → o ≡ simple_aig_opt look (Aig p q) → ⊥
+    pub aig-no-add : (p q : ControlNet) → k ≡ Add d → o ≡ simple_aig_opt look (Aig p q) → ⊥
     aig-no-add p q e f = no-net e (ap adds_net f ∙ aig-nets look p q)
 
-    pub aig-no-both : (p q : ControlNet) → o ≡ AddNotOf d → o ≡ simple_aig_opt look (Aig p q) → ⊥
+    pub aig-no-both : (p q : ControlNet) → k ≡ AddNotOf d → o ≡ simple_aig_opt look (Aig p q) → ⊥
     aig-no-both p q e f = no-inverse e (ap adds_net f ∙ aig-nets look p q)
 
-    pub xor-no-add : (a b : Net) → o ≡ Add d → o ≡ simple_aig_opt look (Xor a b) → ⊥
+    pub xor-no-add : (a b : Net) → k ≡ Add d → o ≡ simple_aig_opt look (Xor a b) → ⊥
     xor-no-add a b e f = no-net e (ap adds_net f ∙ xor-nets look a b)
 
-    pub xor-no-both : (a b : Net) → o ≡ AddNotOf d → o ≡ simple_aig_opt look (Xor a b) → ⊥
+    pub xor-no-both : (a b : Net) → k ≡ AddNotOf d → o ≡ simple_aig_opt look (Xor a b) → ⊥
     xor-no-both a b e f = no-inverse e (ap adds_net f ∙ xor-nets look a b)
 
   module _ (c : Cell) (f : o ≡ normalize c) where
     unadded : adds o ≡ true → ⊥
     unadded e = true≢false (sym e ∙ ap adds f ∙ normalize-adds c)
 
-    pub normalize-no-add : o ≡ Add d → ⊥
-    normalize-no-add e = unadded (ap adds e)
+    pub normalize-no-add : k ≡ Add d → ⊥
+    normalize-no-add e = unadded (ap adds (found ∙ ap Some e))
 
-    pub normalize-no-not : o ≡ NotOf d → ⊥
-    normalize-no-not e = unadded (ap adds e)
+    pub normalize-no-not : k ≡ NotOf d → ⊥
+    normalize-no-not e = unadded (ap adds (found ∙ ap Some e))
 
-    pub normalize-no-both : o ≡ AddNotOf d → ⊥
-    normalize-no-both e = unadded (ap adds e)
+    pub normalize-no-both : k ≡ AddNotOf d → ⊥
+    normalize-no-both e = unadded (ap adds (found ∙ ap Some e))

@@ -12,17 +12,14 @@ use Rattle.cell.specs.declared.Cell.{Cell}
 use Rattle.cell.specs.declared.Cell.TheVariants.{Input, Output, Buf, Not, And, Or, Mux, Aig}
 use Rattle.netlist.specs.inner.Areas.{Within, keys_from}
 use Rattle.netlist.proofs.Frames.{within-then}
-use Rattle.numberer.specs.declared.Found.{Found}
-use Rattle.numberer.specs.declared.Found.TheVariants as found
-use Rattle.design.specs.Queue.{net_in, find_new_cell}
+use Rattle.design.specs.Queue.{net_in, find_new_cell, Source}
 use Rattle.numberer.specs.Numberer.{seek}
 use Rattle.design.proofs.Words.{cells-length}
-use Rattle.normalize.specs.declared.Outcome.{Outcome}
-use Rattle.normalize.specs.declared.Outcome.TheVariants.{None, Value, Form, Add, NotOf, AddNotOf}
-use Rattle.normalize.specs.Outcomes.{◌or_else◌}
+use Rattle.std.specs.Prelude.{None, Some, Option}
+use Rattle.normalize.specs.declared.Change.TheVariants.{Value, Form, Add, NotOf, AddNotOf}
+use Rattle.normalize.specs.Outcomes.{◌or_else◌, first_change, Outcome}
 use Rattle.normalize.specs.Normalize.{normalize}
 use Rattle.normalize.proofs.First.{none-or_else}
-use Rattle.design.specs.declared.Source.{Source}
 use Rattle.aig.specs.Aig.{not_rule}
 use Rattle.rewrite.specs.Rewriter.{Rewriter, weight, find_cell, entered}
 use Rattle.rewrite.specs.Rewrite.{rules, process}
@@ -113,14 +110,14 @@ answers-on x y ws ws' ws'' l (processed.Value n x') z h = (h.0, left-on x y x' w
 answers-on x y ws ws' ws'' l processed.Full z h = (h.0, within-then 0 keys_from ws ws' ws'' (left-within x y ws ws' l) h.1)
 
 -- the cache was asked
-found-answers : (x y : Extent) (ws ws' : List ℕ) (f : Found) → Left x y ws ws' → Answers x ws ws' (found_of y f) (rewriting.asked (rewriter_in y ws') f)
-found-answers x y ws ws' (found.At n) l = (refl, l)
-found-answers x y ws ws' found.Nothing l = (refl, l)
+found-answers : (x y : Extent) (ws ws' : List ℕ) (f : Option Net) → Left x y ws ws' → Answers x ws ws' (found_of y f) (rewriting.asked (rewriter_in y ws') f)
+found-answers x y ws ws' (Some n) l = (refl, l)
+found-answers x y ws ws' None l = (refl, l)
 
-pub asked-found : (x : Extent) (ws : List ℕ) (c : Cell) (u : Found) (n : Net) → u ≡ seek (rewriter_in x ws).cache c → u ≡ found.At n → processed.Value n x ≡ asked_of x ws c
+pub asked-found : (x : Extent) (ws : List ℕ) (c : Cell) (u : Option Net) (n : Net) → u ≡ seek (rewriter_in x ws).cache c → u ≡ Some n → processed.Value n x ≡ asked_of x ws c
 asked-found x ws c u n e f = ap (found_of x) (sym f ∙ e)
 
-pub asked-new : (x : Extent) (ws : List ℕ) (c : Cell) (u : Found) → u ≡ seek (rewriter_in x ws).cache c → u ≡ found.Nothing → processed.None x ≡ asked_of x ws c
+pub asked-new : (x : Extent) (ws : List ℕ) (c : Cell) (u : Option Net) → u ≡ seek (rewriter_in x ws).cache c → u ≡ None → processed.None x ≡ asked_of x ws c
 asked-new x ws c u e f = ap (found_of x) (sym f ∙ e)
 
 -- a form of a form
@@ -173,9 +170,9 @@ add_not-slots k (rewriting.unadded r) = omega arith
 go_on-slots : (k : ℕ) (c : Cell) (y : rewriting.Result) → slots_after y ≤ slots_after (rewriting.go_on (again k) c y)
 go_on-slots k c (rewriting.none r) = go (seek r.cache c)
   where
-    go : (f : Found) → slots_of r ≤ slots_after (rewriting.asked r f)
-    go (found.At n) = omega arith
-    go found.Nothing = omega arith
+    go : (f : Option Net) → slots_of r ≤ slots_after (rewriting.asked r f)
+    go (Some n) = omega arith
+    go None = omega arith
 go_on-slots k c (rewriting.cell d r) = omega (arith, replacing-slots d (again k r d), again-slots k r d)
 go_on-slots k c (rewriting.value n r) = omega arith
 go_on-slots k c (rewriting.spent r) = omega arith
@@ -214,11 +211,11 @@ both-lighter m k (rewriting.unadded r) = tt
 
 pass-lighter : (k m : ℕ) (r : Rewriter) (o : Outcome) → Lighter r.stamps m o → LighterPass m (rewriting.perform (adder k) r o)
 pass-lighter k m r None l = tt
-pass-lighter k m r (Value n) l = tt
-pass-lighter k m r (Form c) l = l
-pass-lighter k m r (Add c) l = value-lighter m (adder k r c)
-pass-lighter k m r (NotOf c) l = not-lighter m (adder k r c) (omega arith)
-pass-lighter k m r (AddNotOf c) l = both-lighter m k (adder k r c)
+pass-lighter k m r (Some (Value n)) l = tt
+pass-lighter k m r (Some (Form c)) l = l
+pass-lighter k m r (Some (Add c)) l = value-lighter m (adder k r c)
+pass-lighter k m r (Some (NotOf c)) l = not-lighter m (adder k r c) (omega arith)
+pass-lighter k m r (Some (AddNotOf c)) l = both-lighter m k (adder k r c)
 
 -- what the definition keeps of a run's state, and so what the words are ready for
 module _ (cs : List Cell) (before : List ℕ) where
@@ -344,11 +341,11 @@ performs-same x ws ws' o u p e s = performs-by x ws ws' o u e p p refl s.said
 unadded-answers : (x : Extent) (ws : List ℕ) → Held x ws → (k : ℕ) (o : Outcome) → adds o ≡ false
     → Answers x ws ws (unadded_of x o) (rewriting.perform (adder k) (rewriter_in x ws) o)
 unadded-answers x ws h k None e = (refl, left-same x ws h)
-unadded-answers x ws h k (Value n) e = (refl, left-same x ws h)
-unadded-answers x ws h k (Form c) e = (refl, left-same x ws h)
-unadded-answers x ws h k (Add c) e = absurd (true≢false e)
-unadded-answers x ws h k (NotOf c) e = absurd (true≢false e)
-unadded-answers x ws h k (AddNotOf c) e = absurd (true≢false e)
+unadded-answers x ws h k (Some (Value n)) e = (refl, left-same x ws h)
+unadded-answers x ws h k (Some (Form c)) e = (refl, left-same x ws h)
+unadded-answers x ws h k (Some (Add c)) e = absurd (true≢false e)
+unadded-answers x ws h k (Some (NotOf c)) e = absurd (true≢false e)
+unadded-answers x ws h k (Some (AddNotOf c)) e = absurd (true≢false e)
 
 performs-unadded : (x : Extent) (ws : List ℕ) (o u : Outcome) (p : Processed) → Held x ws → o ≡ u → adds u ≡ false → p ≡ unadded_of x u → Performs x ws ws o p
 performs-unadded x ws o u p h e a f = performs-by x ws ws o u e p (unadded_of x u) f (λ k l. unadded-answers x ws h k u a)
@@ -361,11 +358,11 @@ module _ (x : Extent) (ws : List ℕ) (c : Cell) (o : Outcome) where
   pub opted-none : o ≡ None → Ready x ws c → o ≡ opted x ws c → Performs x ws ws (opted x ws c) (processed.None x)
   opted-none f g e = decided None (processed.None x) g f e refl refl
 
-  pub opted-value : (n : Net) → o ≡ Value n → Ready x ws c → o ≡ opted x ws c → Performs x ws ws (opted x ws c) (processed.Value n x)
-  opted-value n f g e = decided (Value n) (processed.Value n x) g f e refl refl
+  pub opted-value : (n : Net) → o ≡ Some (Value n) → Ready x ws c → o ≡ opted x ws c → Performs x ws ws (opted x ws c) (processed.Value n x)
+  opted-value n f g e = decided (Some (Value n)) (processed.Value n x) g f e refl refl
 
-  pub opted-form : (d : Cell) → o ≡ Form d → Ready x ws c → o ≡ opted x ws c → Performs x ws ws (opted x ws c) (processed.Cell d x)
-  opted-form d f g e = decided (Form d) (processed.Cell d x) g f e refl refl
+  pub opted-form : (d : Cell) → o ≡ Some (Form d) → Ready x ws c → o ≡ opted x ws c → Performs x ws ws (opted x ws c) (processed.Cell d x)
+  opted-form d f g e = decided (Some (Form d)) (processed.Cell d x) g f e refl refl
 
 pub not-unadded : (x : Extent) (ws : List ℕ) (a : Net) (src : Source) (o : Outcome) (p : Processed) → p ≡ unadded_of x o → o ≡ not_rule src a
     → src ≡ find_cell find_new_cell (rewriter_in x ws) a → p ≡ unadded_of x (opted x ws (Not a))
@@ -376,19 +373,19 @@ module _ (x : Extent) (ws : List ℕ) (a b : Net) where
   abbrev conjunction : Cell
   conjunction = Aig (Pos a) (Pos b)
 
-  and_is : opted x ws (And a b) ≡ Add (Aig (Pos a) (Pos b))
+  and_is : opted x ws (And a b) ≡ Some (Add (Aig (Pos a) (Pos b)))
   and_is = and-arm (find_cell find_new_cell (rewriter_in x ws)) a b
 
   pub and-ready : Ready x ws (And a b) → Ready x ws (Aig (Pos a) (Pos b))
-  and-ready g = added-ready x ws (And a b) g (Add (Aig (Pos a) (Pos b))) and_is (Aig (Pos a) (Pos b)) (λ h. h)
+  and-ready g = added-ready x ws (And a b) g (Some (Add (Aig (Pos a) (Pos b)))) and_is (Aig (Pos a) (Pos b)) (λ h. h)
 
   pub and-falls : (t : ℕ) → Ready x ws (And a b) → 8 * weight (rewriter_in x ws).stamps (And a b) ≡ t → 8 * weight (rewriter_in x ws).stamps (Aig (Pos a) (Pos b)) + 3 < t
-  and-falls t g m = omega (arith, added-lighter x ws (And a b) g (Add (Aig (Pos a) (Pos b))) and_is (Aig (Pos a) (Pos b)) (λ h. h))
+  and-falls t g m = omega (arith, added-lighter x ws (And a b) g (Some (Add (Aig (Pos a) (Pos b)))) and_is (Aig (Pos a) (Pos b)) (λ h. h))
 
   module _ (ws' : List ℕ) (u : Added) (s : Adds x ws ws' (Aig (Pos a) (Pos b)) u) where
     and-by : (v : Added) (p : Processed) → u ≡ v → p ≡ as_value_of v → Performs x ws ws' (opted x ws (And a b)) p
     and-by v p e f =
-        performs-by x ws ws' (opted x ws (And a b)) (Add (Aig (Pos a) (Pos b))) and_is p (as_value_of v) f (λ k l.
+        performs-by x ws ws' (opted x ws (And a b)) (Some (Add (Aig (Pos a) (Pos b)))) and_is p (as_value_of v) f (λ k l.
         value-answers x ws ws' v (adder k (rewriter_in x ws) (Aig (Pos a) (Pos b)))
         (subst (λ v. AnswersAdd x ws ws' v (adder k (rewriter_in x ws) (Aig (Pos a) (Pos b)))) e (s.said k l)))
 
@@ -403,14 +400,14 @@ module _ (x : Extent) (ws : List ℕ) (a b : Net) where
   abbrev d : Cell
   d = Aig (Neg a) (Neg b)
 
-  or_is : opted x ws (Or a b) ≡ AddNotOf (Aig (Neg a) (Neg b))
+  or_is : opted x ws (Or a b) ≡ Some (AddNotOf (Aig (Neg a) (Neg b)))
   or_is = or-arm (find_cell find_new_cell (rewriter_in x ws)) a b
 
   or-lighter : Ready x ws (Or a b) → weight (rewriter_in x ws).stamps (Aig (Neg a) (Neg b)) < weight (rewriter_in x ws).stamps (Or a b)
-  or-lighter g = added-lighter x ws (Or a b) g (AddNotOf (Aig (Neg a) (Neg b))) or_is (Aig (Neg a) (Neg b)) (λ h. h)
+  or-lighter g = added-lighter x ws (Or a b) g (Some (AddNotOf (Aig (Neg a) (Neg b)))) or_is (Aig (Neg a) (Neg b)) (λ h. h)
 
   pub or-ready : Ready x ws (Or a b) → Ready x ws (Aig (Neg a) (Neg b))
-  or-ready g = added-ready x ws (Or a b) g (AddNotOf (Aig (Neg a) (Neg b))) or_is (Aig (Neg a) (Neg b)) (λ h. h)
+  or-ready g = added-ready x ws (Or a b) g (Some (AddNotOf (Aig (Neg a) (Neg b)))) or_is (Aig (Neg a) (Neg b)) (λ h. h)
 
   pub or-falls : (t : ℕ) → Ready x ws (Or a b) → 8 * weight (rewriter_in x ws).stamps (Or a b) ≡ t → 8 * weight (rewriter_in x ws).stamps (Aig (Neg a) (Neg b)) + 3 < t
   or-falls t g m = omega (arith, or-lighter g)
@@ -421,7 +418,7 @@ module _ (x : Extent) (ws : List ℕ) (a b : Net) where
 
     pub or-full : u ≡ added.Full → Performs x ws ws' (opted x ws (Or a b)) processed.Full
     or-full f =
-        performs-by x ws ws' (opted x ws (Or a b)) (AddNotOf d) or_is processed.Full processed.Full refl (λ k l.
+        performs-by x ws ws' (opted x ws (Or a b)) (Some (AddNotOf d)) or_is processed.Full processed.Full refl (λ k l.
         let z : AnswersAdd x ws ws' added.Full (adder k (rewriter_in x ws) d) = added-as added.Full f k l in
         (omega (arith, z.0, add_not-slots k (adder k (rewriter_in x ws) d)), z.1))
 
@@ -442,7 +439,7 @@ module _ (x : Extent) (ws : List ℕ) (a b : Net) where
 
       pub or-performs : (ws'' : List ℕ) (v : Added) (p : Processed) → Adds y ws' ws'' (Not n) v → p ≡ as_value_of v → Performs x ws ws'' (opted x ws (Or a b)) p
       or-performs ws'' v p i q =
-          performs-by x ws ws'' (opted x ws (Or a b)) (AddNotOf d) or_is p (as_value_of v) q (λ k l.
+          performs-by x ws ws'' (opted x ws (Or a b)) (Some (AddNotOf d)) or_is p (as_value_of v) q (λ k l.
           let z : AnswersAdd x ws ws' (added.At n y) (adder k (rewriter_in x ws) d) = added-as (added.At n y) f k l in
           subst (λ w. Answers x ws ws'' (as_value_of v) (rewriting.add_not (adder k) w)) (sym z.0)
           (answers-on x y ws ws' ws'' z.1 (as_value_of v) (rewriting.as_value (adder k (rewriter_in y ws') (Not n)))
@@ -450,17 +447,17 @@ module _ (x : Extent) (ws : List ℕ) (a b : Net) where
 
 -- an outcome that is the inverse of a cell
 module _ (x : Extent) (ws : List ℕ) (c d : Cell) (o : Outcome) where
-  pub inverse-ready : o ≡ NotOf d → Ready x ws c → o ≡ opted x ws c → Ready x ws d
-  inverse-ready f g e = added-ready x ws c g (NotOf d) (sym e ∙ f) d (λ h. h)
+  pub inverse-ready : o ≡ Some (NotOf d) → Ready x ws c → o ≡ opted x ws c → Ready x ws d
+  inverse-ready f g e = added-ready x ws c g (Some (NotOf d)) (sym e ∙ f) d (λ h. h)
 
-  pub inverse-falls : (t : ℕ) → o ≡ NotOf d → Ready x ws c → 8 * weight (rewriter_in x ws).stamps c ≡ t → o ≡ opted x ws c
+  pub inverse-falls : (t : ℕ) → o ≡ Some (NotOf d) → Ready x ws c → 8 * weight (rewriter_in x ws).stamps c ≡ t → o ≡ opted x ws c
       → 8 * weight (rewriter_in x ws).stamps d + 3 < t
-  inverse-falls t f g m e = omega (arith, added-lighter x ws c g (NotOf d) (sym e ∙ f) d (λ h. h))
+  inverse-falls t f g m e = omega (arith, added-lighter x ws c g (Some (NotOf d)) (sym e ∙ f) d (λ h. h))
 
-  pub inverse-performs : (ws' : List ℕ) (u : Added) (p : Processed) → p ≡ as_not_of u → Adds x ws ws' d u → o ≡ NotOf d → o ≡ opted x ws c
+  pub inverse-performs : (ws' : List ℕ) (u : Added) (p : Processed) → p ≡ as_not_of u → Adds x ws ws' d u → o ≡ Some (NotOf d) → o ≡ opted x ws c
       → Performs x ws ws' (opted x ws c) p
   inverse-performs ws' u p q s f e =
-      performs-by x ws ws' (opted x ws c) (NotOf d) (sym e ∙ f) p (as_not_of u) q (λ k l.
+      performs-by x ws ws' (opted x ws c) (Some (NotOf d)) (sym e ∙ f) p (as_not_of u) q (λ k l.
       not-answers x ws ws' u (adder k (rewriter_in x ws) d) (s.said k l))
 
 -- `SimpleAigOpt` by the kind of the cell
@@ -501,13 +498,13 @@ module _ (x : Extent) (ws : List ℕ) (c : Cell) (o : Outcome) (e : o ≡ normal
   unfolding rewriting.rules
   ruled-as u f = ap (λ n. n or_else opted x ws c) (sym e ∙ f)
 
-  ruled-value : (n : Net) → Ready x ws c → o ≡ Value n → Performs x ws ws (ruled x ws c) (processed.Value n x)
-  unfolding ◌or_else◌
-  ruled-value n g f = performs-unadded x ws (ruled x ws c) (Value n) (processed.Value n x) g.running.held (ruled-as (Value n) f) refl refl
+  ruled-value : (n : Net) → Ready x ws c → o ≡ Some (Value n) → Performs x ws ws (ruled x ws c) (processed.Value n x)
+  unfolding first_change
+  ruled-value n g f = performs-unadded x ws (ruled x ws c) (Some (Value n)) (processed.Value n x) g.running.held (ruled-as (Some (Value n)) f) refl refl
 
-  ruled-form : (d : Cell) → Ready x ws c → o ≡ Form d → Performs x ws ws (ruled x ws c) (processed.Cell d x)
-  unfolding ◌or_else◌
-  ruled-form d g f = performs-unadded x ws (ruled x ws c) (Form d) (processed.Cell d x) g.running.held (ruled-as (Form d) f) refl refl
+  ruled-form : (d : Cell) → Ready x ws c → o ≡ Some (Form d) → Performs x ws ws (ruled x ws c) (processed.Cell d x)
+  unfolding first_change
+  ruled-form d g f = performs-unadded x ws (ruled x ws c) (Some (Form d)) (processed.Cell d x) g.running.held (ruled-as (Some (Form d)) f) refl refl
 
   ruled-opted : (ws' : List ℕ) (p : Processed) → o ≡ None → Performs x ws ws' (opted x ws c) p → Performs x ws ws' (ruled x ws c) p
   ruled-opted ws' p f s = performs-same x ws ws' (ruled x ws c) (opted x ws c) p (ruled-as None f ∙ none-or_else (opted x ws c)) s
@@ -607,14 +604,14 @@ module _ (x : Extent) (ws : List ℕ) (c : Cell) (y : Extent) (ws' : List ℕ) (
 
   -- `Normalize` decides
   module _ (o : Outcome) (a : o ≡ normalize d) where
-    pub normal-value : (n : Net) → o ≡ Value n → Processes x ws ws' c (processed.Value n y)
+    pub normal-value : (n : Net) → o ≡ Some (Value n) → Processes x ws ws' c (processed.Value n y)
     normal-value n f =
         v.left ws' (processed.Value n y) (process-value y ws' d v.ready ws' (processed.Value n y) (ruled-value y ws' d o a n v.ready f) n y refl)
 
-    pub normal-less : (e : Cell) → o ≡ Form e → weight (rewriter_in y ws').stamps e < weight (rewriter_in y ws').stamps d
+    pub normal-less : (e : Cell) → o ≡ Some (Form e) → weight (rewriter_in y ws').stamps e < weight (rewriter_in y ws').stamps d
     normal-less e f = next-less ws' (processed.Cell e y) (ruled-form y ws' d o a e v.ready f) e y refl
 
-    pub normal-form : (e : Cell) → o ≡ Form e → Forms x ws c y ws' e true
+    pub normal-form : (e : Cell) → o ≡ Some (Form e) → Forms x ws c y ws' e true
     normal-form e f = next-form ws' (processed.Cell e y) (ruled-form y ws' d o a e v.ready f) e y refl refl
 
     -- or gives nothing, and `SimpleAigOpt` decides

@@ -9,12 +9,12 @@ ghost use Rattle.rewriter_state.specs.inner.Words.{Held};
 ghost use Rattle.rewriter_cycle.specs.inner.Cycle.{as_value_of, as_not_of, adds, unadded_of, asked_of, form_of, opted, Ready, Performs, Processes, Adds};
 
 use cell::Cell;
-use normalize::Outcome;
-use numberer::Found;
+use normalize::Change;
 use rewriter_state::{Added, Extent};
 use value::{ControlNet, Net};
 
 // What is left of a cell that was processed (`RewriteResult`): itself, another form, a net in its place; or no slot is left.
+// No Result, for the time that stands at `Added`.
 #[derive(Clone, Copy)]
 pub enum Processed {
     None(Extent),
@@ -42,17 +42,14 @@ fn as_not(a: Added) -> Processed
 }
 
 // The outcome of a rule that adds no cell.
-fn unadded(x: Extent, o: Outcome) -> Processed
+fn unadded(x: Extent, o: Option<Change>) -> Processed
     requires { adds o ≡ false }
     ensures { result ≡ unadded_of x o }
 {
     match o {
-        Outcome::None => Processed::None(x),
-        Outcome::Value(n) => Processed::Value(n, x),
-        Outcome::Form(c) => Processed::Cell(c, x),
-        Outcome::Add(_) => Processed::None(x),
-        Outcome::NotOf(_) => Processed::None(x),
-        Outcome::AddNotOf(_) => Processed::None(x),
+        Some(Change::Value(n)) => Processed::Value(n, x),
+        Some(Change::Form(c)) => Processed::Cell(c, x),
+        _ => Processed::None(x),
     }
 }
 
@@ -88,7 +85,7 @@ fn rewrite_or(work: &mut [u32], x: Extent, a: Net, b: Net) -> Processed
 }
 
 // What the tests of `Cell::Xor` decide over what its operands are looked up as.
-fn xor_outcome(work: &[u32], x: Extent, a: Net, b: Net) -> Outcome
+fn xor_outcome(work: &[u32], x: Extent, a: Net, b: Net) -> Option<Change>
     ensures { result ≡ opted x work.now (Xor a b) }
 {
     let src1 = rewriter_state::find_cell(work, x, a);
@@ -102,20 +99,21 @@ fn rewrite_xor(work: &mut [u32], x: Extent, a: Net, b: Net) -> Processed
     requires { Ready x work.old (Xor a b) }
     ensures { Performs x work.old work.new (opted x work.old (Xor a b)) result }
 {
-    let o = xor_outcome(work, x, a, b);
-    match o {
-        Outcome::None => Processed::None(x),
-        Outcome::Value(n) => Processed::Value(n, x),
-        Outcome::Form(c) => Processed::Cell(c, x),
-        Outcome::NotOf(c) => as_not(add_cell(work, x, c)),
-        // Never: no test of this arm asks for the net of a cell.
-        Outcome::Add(_) => Processed::None(x),
-        Outcome::AddNotOf(_) => Processed::None(x),
+    match xor_outcome(work, x, a, b) {
+        None => Processed::None(x),
+        Some(change) => match change {
+            Change::Value(n) => Processed::Value(n, x),
+            Change::Form(c) => Processed::Cell(c, x),
+            Change::NotOf(c) => as_not(add_cell(work, x, c)),
+            // Never: no test of this arm asks for the net of a cell.
+            Change::Add(_) => Processed::None(x),
+            Change::AddNotOf(_) => Processed::None(x),
+        },
     }
 }
 
 // What the tests of `Cell::Aig` decide over what its operands are looked up as.
-fn aig_outcome(work: &[u32], x: Extent, p: ControlNet, q: ControlNet) -> Outcome
+fn aig_outcome(work: &[u32], x: Extent, p: ControlNet, q: ControlNet) -> Option<Change>
     ensures { result ≡ opted x work.now (Aig p q) }
 {
     let src1 = rewriter_state::find_cell(work, x, p.net());
@@ -129,15 +127,16 @@ fn rewrite_aig(work: &mut [u32], x: Extent, p: ControlNet, q: ControlNet) -> Pro
     requires { Ready x work.old (Aig p q) }
     ensures { Performs x work.old work.new (opted x work.old (Aig p q)) result }
 {
-    let o = aig_outcome(work, x, p, q);
-    match o {
-        Outcome::None => Processed::None(x),
-        Outcome::Value(n) => Processed::Value(n, x),
-        Outcome::Form(c) => Processed::Cell(c, x),
-        Outcome::NotOf(c) => as_not(add_cell(work, x, c)),
-        // Never: no test of this arm asks for the net of a cell.
-        Outcome::Add(_) => Processed::None(x),
-        Outcome::AddNotOf(_) => Processed::None(x),
+    match aig_outcome(work, x, p, q) {
+        None => Processed::None(x),
+        Some(change) => match change {
+            Change::Value(n) => Processed::Value(n, x),
+            Change::Form(c) => Processed::Cell(c, x),
+            Change::NotOf(c) => as_not(add_cell(work, x, c)),
+            // Never: no test of this arm asks for the net of a cell.
+            Change::Add(_) => Processed::None(x),
+            Change::AddNotOf(_) => Processed::None(x),
+        },
     }
 }
 
@@ -166,8 +165,8 @@ fn asked(work: &[u32], x: Extent, c: Cell) -> Processed
     ensures { result ≡ asked_of x work.now c }
 {
     match rewriter_state::known(work, x, c) {
-        Found::At(n) => Processed::Value(n, x),
-        Found::Nothing => Processed::None(x),
+        Some(n) => Processed::Value(n, x),
+        None => Processed::None(x),
     }
 }
 
@@ -199,25 +198,27 @@ pub fn process_cell(work: &mut [u32], x: Extent, c: Cell) -> Processed
     let mut replaced = false;
     loop {
         match normalize::normalize(d) {
-            Outcome::Value(n) => return Processed::Value(n, y),
-            Outcome::Form(e) => {
-                d = e;
-                replaced = true;
-            }
-            Outcome::None => match simple_aig_opt(work, y, d) {
-                Processed::None(z) => return as_form(replaced, d, asked(work, z, d)),
-                Processed::Cell(e, z) => {
-                    y = z;
+            Some(change) => match change {
+                Change::Value(n) => return Processed::Value(n, y),
+                Change::Form(e) => {
                     d = e;
                     replaced = true;
+                }
+                // Never: `Normalize` adds no cell.
+                Change::Add(_) => return Processed::Full,
+                Change::NotOf(_) => return Processed::Full,
+                Change::AddNotOf(_) => return Processed::Full,
+            },
+            None => match simple_aig_opt(work, y, d) {
+                Processed::None(z) => return as_form(replaced, d, asked(work, z, d)),
+                Processed::Cell(e, z) => {
+                    d = e;
+                    replaced = true;
+                    y = z;
                 }
                 Processed::Value(n, z) => return Processed::Value(n, z),
                 Processed::Full => return Processed::Full,
             },
-            // Never: `Normalize` adds no cell.
-            Outcome::Add(_) => return Processed::Full,
-            Outcome::NotOf(_) => return Processed::Full,
-            Outcome::AddNotOf(_) => return Processed::Full,
         }
     }
 }

@@ -18,9 +18,8 @@ use Rattle.cell.specs.declared.Cell.TheVariants.{Input}
 use Rattle.cell.specs.Records.{cell_of}
 use Rattle.basics.proofs.Tables.{tabulate-length, tabulate-at}
 use Rattle.netlist.specs.inner.Areas.{word_record, words_in, figures_at}
-use Rattle.design.specs.declared.Source.{Source}
-use Rattle.design.specs.declared.Source.TheVariants.{Opaque, Known}
-use Rattle.design.specs.Queue.{source_in, map_net_new, find_new_cell}
+use Rattle.std.specs.Prelude.{None, Some}
+use Rattle.design.specs.Queue.{source_in, map_net_new, find_new_cell, Source}
 use Rattle.design.specs.inner.Words.{netlist_in, replaced_in}
 use Rattle.design.proofs.Words.{cells-length, cell_at}
 use Rattle.rewrite.specs.Rewriter.{stamp, stamp_in, find_cell}
@@ -58,24 +57,24 @@ module _ (x : Extent) (ws : List ℕ) (n y : Net) (y-is : y ≡ map_net_new (rep
   unfolding find_new_cell rewriter_in
   by-driver v e = ap (source_in cells) (sym e ∙ d-is ∙ ap driver y-is)
 
-  pub source-const : (t : Trit) → d ≡ driven.Const t → Opaque ≡ find_new_cell (rewriter_in x ws).design n
+  pub source-const : (t : Trit) → d ≡ driven.Const t → None ≡ find_new_cell (rewriter_in x ws).design n
   source-const t e = by-driver (driven.Const t) e
 
   module _ (s : Slot) (e : d ≡ driven.Cell s) where
-    pub source-cell : s.0 < x.slots → (c : Cell) → c ≡ cell_of (word_record ws s.0) → Known c ≡ find_new_cell (rewriter_in x ws).design n
-    source-cell h c f = ap Known (f ∙ sym (cell_at x.slots ws s.0 h)) ∙ by-driver (driven.Cell s) e
+    pub source-cell : s.0 < x.slots → (c : Cell) → c ≡ cell_of (word_record ws s.0) → Some c ≡ find_new_cell (rewriter_in x ws).design n
+    source-cell h c f = ap Some (f ∙ sym (cell_at x.slots ws s.0 h)) ∙ by-driver (driven.Cell s) e
 
-    pub source-past : x.slots ≤ s.0 → Known (Input 0) ≡ find_new_cell (rewriter_in x ws).design n
+    pub source-past : x.slots ≤ s.0 → Some (Input 0) ≡ find_new_cell (rewriter_in x ws).design n
     source-past h =
-        ap Known (sym (get_or-eq_default cells (Input 0) (omega (arith, cells-length x.slots ws)))) ∙ by-driver (driven.Cell s) e
+        ap Some (sym (get_or-eq_default cells (Input 0) (omega (arith, cells-length x.slots ws)))) ∙ by-driver (driven.Cell s) e
 
 -- none where the net has no stamp
 module _ (x : Extent) (ws : List ℕ) (n : Net) (t : ℕ) (t-is : t ≡ stamp (words_in figures_at x.slots ws) n) where
-  by-test : (b : Bool) → eqb t 0 ≡ b → cond b Opaque (find_new_cell (rewriter_in x ws).design n) ≡ find_cell find_new_cell (rewriter_in x ws) n
+  by-test : (b : Bool) → eqb t 0 ≡ b → cond b None (find_new_cell (rewriter_in x ws).design n) ≡ find_cell find_new_cell (rewriter_in x ws) n
   unfolding find_cell rewriter_in
   by-test b e = rw (← e, t-is)
 
-  pub unstamped : t ≡ 0 → Opaque ≡ find_cell find_new_cell (rewriter_in x ws) n
+  pub unstamped : t ≡ 0 → None ≡ find_cell find_new_cell (rewriter_in x ws) n
   unstamped e = by-test true (eq-eqb t 0 e)
 
   pub stamped : (t ≡ 0 → ⊥) → (c : Source) → c ≡ find_new_cell (rewriter_in x ws).design n → c ≡ find_cell find_new_cell (rewriter_in x ws) n

@@ -1,4 +1,5 @@
 -- The state of the rewriter in the words after a store in each area. Assumes nothing.
+use Rattle.std.proofs.Common.{Option}
 use mathlib.Core.Path.{◌≡◌, refl, sym, ap, ap₂, ◌∙◌, subst}
 use mathlib.Core.Bool.{Bool, true, false}
 use mathlib.Core.List.{List, [], ◌∷◌, ◌++◌}
@@ -24,7 +25,6 @@ use Rattle.netlist.specs.Netlist.{netlist_of}
 use Rattle.netlist.proofs.Frames.{within-then, within_wider, within-set, tabulate-same, record-kept, words-kept}
 use Rattle.netlist.proofs.Areas.{Sized, store-within, stored_other, stored_same}
 use Rattle.order.proofs.Words.{tabulate-set}
-use Rattle.numberer.specs.declared.Found.{Found}
 use Rattle.design.specs.Queue.{Design, net_in, replace_cell, replace_net}
 use Rattle.numberer.specs.Numberer.{Entry, seek}
 use Rattle.design.specs.inner.Words.{netlist_in, replaced_in}
@@ -98,7 +98,7 @@ module _ (ws ws' : List ℕ) (s v : ℕ) (put : ws' ≡ set ws (figures_at + s) 
 pub few-entries : (x : Extent) (ws : List ℕ) → Held x ws → x.entries ≤ 1024
 few-entries x ws g = omega (arith, g.cached, g.timed, g.fit)
 
-pub known-cell : (x : Extent) (ws : List ℕ) (r : Record) (c : Cell) → r ≡ cell_record 0 c → (v : Found) → v ≡ seek (numberer_in x.entries ws) (cell_of r)
+pub known-cell : (x : Extent) (ws : List ℕ) (r : Record) (c : Cell) → r ≡ cell_record 0 c → (v : Option Net) → v ≡ seek (numberer_in x.entries ws) (cell_of r)
     → v ≡ seek (rewriter_in x ws).cache c
 unfolding rewriter_in
 known-cell x ws r c e v f = f ∙ ap (seek (numberer_in x.entries ws)) (ap cell_of e ∙ cell-back 0 c)

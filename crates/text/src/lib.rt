@@ -7,7 +7,7 @@ ghost use Rattle.lines.specs.Lines.{to_end, record_line, refusal_line};
 ghost use Rattle.text.specs.Text.{Puts};
 
 use cell::Record;
-use refusals::Refusal;
+use refusals::{Figures, Refusal};
 
 // Bytes as they are.
 fn put_all(text: &mut [u8], at: usize, bytes: &[u8]) -> usize
@@ -57,7 +57,7 @@ pub fn put_refusal(text: &mut [u8], at: usize, x: Refusal) -> usize
     requires { at + 80 ≤ length text.old }
     ensures { Puts 80 text.old text.new at (refusal_line x) result }
 {
-    let f = refusals::figures_of(x);
+    let f = Figures::from(x);
     let n = put_all(text, at, b"refused");
     if f.number == 7 {
         let numbers = [f.number, f.place, f.field];

@@ -12,8 +12,7 @@ pub fn cabbagetier_check(ticket: &[u8], work: &mut [u32], answer: &mut [u32; 8])
     ensures work_after { work.new ≡ cleared work.old }
     ensures answer_after { answer.new ≡ words_of (check_figures (check_answer (length work.old) ticket.now)) }
 {
-    let k = check_call::check(ticket, work);
-    answers::tell_checked(k, answer)
+    answers::tell(check_call::check(ticket, work), answer)
 }
 
 pub fn cabbagetier_levels(
@@ -28,8 +27,7 @@ pub fn cabbagetier_levels(
     ensures work_after { work.new ≡ cleared work.old }
     ensures answer_after { answer.new ≡ words_of (written_figures (level_answer (length work.old) ticket.now levels.now reply.old)) }
 {
-    let w = levels_call::levels(ticket, levels, work, reply);
-    answers::tell_written(w, answer)
+    answers::tell(levels_call::levels(ticket, levels, work, reply), answer)
 }
 
 pub fn cabbagetier_compact(
@@ -43,8 +41,7 @@ pub fn cabbagetier_compact(
     ensures work_after { work.new ≡ cleared work.old }
     ensures answer_after { answer.new ≡ words_of (written_figures (compact_answer (length work.old) ticket.now reply.old)) }
 {
-    let w = compact_call::compact(ticket, work, reply);
-    answers::tell_written(w, answer)
+    answers::tell(compact_call::compact(ticket, work, reply), answer)
 }
 
 pub fn cabbagetier_merge(
@@ -58,8 +55,7 @@ pub fn cabbagetier_merge(
     ensures work_after { work.new ≡ cleared work.old }
     ensures answer_after { answer.new ≡ words_of (merged_figures (merge_answer (length work.old) ticket.now reply.old)) }
 {
-    let m = merge_call::merge(ticket, work, reply);
-    answers::tell_merged(m, answer)
+    answers::tell(merge_call::merge(ticket, work, reply), answer)
 }
 
 pub fn cabbagetier_rewrite(
@@ -73,6 +69,5 @@ pub fn cabbagetier_rewrite(
     ensures work_after { work.new ≡ cleared work.old }
     ensures answer_after { answer.new ≡ words_of (written_figures (rewrite_answer find_new_cell (length work.old) ticket.now reply.old)) }
 {
-    let w = rewrite_call::rewrite(ticket, work, reply);
-    answers::tell_written(w, answer)
+    answers::tell(rewrite_call::rewrite(ticket, work, reply), answer)
 }

@@ -5,6 +5,7 @@ use Rattle.value.specs.Value.{slot_at}
 use Rattle.cell.specs.declared.Record.{Record}
 use Rattle.cell.specs.Records.{record_of}
 use Rattle.netlist.specs.Netlist.{ticket_of}
+use Rattle.kinds.specs.declared.Field.TheVariants as field
 use Rattle.refusals.specs.declared.Refusal.{Refusal}
 use Rattle.refusals.specs.declared.Refusal.TheVariants.{ShortWork, PartialRecord, TooManyRecords, UnknownKind, ReservedField, BitOutOfSequence, UndrivenOperand, Loop, SlotsExhausted, LevelCount, LevelValue, ShortReply}
 use Rattle.calls.specs.Work.{cleared}
@@ -166,7 +167,7 @@ refusals =
     ∷ UnknownKind (slot_at 5)
     ∷ ReservedField (slot_at 5)
     ∷ BitOutOfSequence (slot_at 5)
-    ∷ UndrivenOperand (slot_at 5) 3
+    ∷ UndrivenOperand (slot_at 5) field.C
     ∷ Loop (slot_at 5)
     ∷ SlotsExhausted
     ∷ LevelCount

@@ -6,6 +6,7 @@
 use Rattle.std.specs.Prelude.{◌≡◌, not, List, [], ◌∷◌, ◌++◌, map, ℕ, ◌/◌, ltb, length, take}
 use Rattle.cell.specs.declared.Record.{Record}
 use Rattle.cell.specs.Records.{record_of, records_of}
+use Rattle.kinds.specs.declared.Field.TheVariants as field
 use Rattle.refusals.specs.declared.Refusal.TheVariants.{ShortReply}
 use Rattle.refusals.specs.Refusals.{Stage, first_of, slot_by_slot}
 use Rattle.checking.specs.Checking.{kind_stages, field_stages, bit_stages, operand_stage, size_group, loop_group, gate_count}
@@ -17,7 +18,7 @@ use Rattle.design.specs.Queue.{applied, find_new_cell}
 use Rattle.merge.specs.Merge.{key_of, merge}
 use Rattle.rewrite.specs.Rewriter.{Lookup, begun}
 use Rattle.rewrite.specs.Rewrite.{run_items, compacted}
-use Rattle.calls.specs.Answers.{Told, refused, checked_by, check_figures, written_by, written_figures, merged_by, merged_figures}
+use Rattle.calls.specs.Answers.{Told, refused, check_figures, answer_by, written_figures, merged_figures, merged_of, counts_of}
 use Rattle.calls.specs.Calls.{decoded, encoded, reply_after, check_verdict, check_answer, merge_bytes, merge_answer, merge_reply, rewrite_bytes, rewrite_answer, rewrite_reply}
 use Rattle.tickets.specs.Starred.{Call, checking, merging, rewriting, called, words, reply, T2, T3, T5, T6, T7, T8, T9}
 use Rattle.tickets.specs.Refused.{undriven_arms}
@@ -32,7 +33,7 @@ refuses_all t = (refused ShortReply, reply)
 
 -- answers a count and leaves bytes for a ticket that passes checking
 abbrev pub accepts : (List ℕ → ℕ) → (List ℕ → List ℕ) → Program
-accepts count bytes t = (written_figures (written_by (check_verdict words t) (count t)), reply_after (check_verdict words t) reply (bytes t))
+accepts count bytes t = (written_figures (answer_by (check_verdict words t) (count t)), reply_after (check_verdict words t) reply (bytes t))
 
 abbrev pub writes : (List ℕ → List ℕ) → Program
 writes bytes = accepts (λ t. length (bytes t)) bytes
@@ -62,21 +63,21 @@ counts_the_ticket = accepts length (rewrite_bytes find_new_cell)
 
 -- checks, and answers the record count as the gate count
 abbrev pub counts_all_as_gates : Program
-counts_all_as_gates t = (check_figures (checked_by (check_verdict words t) (length t / 16) (length t / 16)), reply)
+counts_all_as_gates t = (check_figures (answer_by (check_verdict words t) (counts_of (length t / 16) (length t / 16))), reply)
 
 -- checks, and answers the records other than inputs and outputs as the gate count, inverters among them
 abbrev pub charges_for_inverters : Program
-charges_for_inverters t = (check_figures (checked_by (check_verdict words t) (length t / 16) (length (gates_in (decoded t) (slots (length t / 16))))), reply)
+charges_for_inverters t = (check_figures (answer_by (check_verdict words t) (counts_of (length t / 16) (length (gates_in (decoded t) (slots (length t / 16)))))), reply)
 
 -- checks, and tests the fields of a record from c to a (request 2026-06 has it from a to c)
 abbrev pub from_the_last : List Record → ℕ → List Stage
-from_the_last rs s = kind_stages rs s ++ field_stages rs s ++ bit_stages rs s ++ (operand_stage rs s 3 ∷ operand_stage rs s 2 ∷ operand_stage rs s 1 ∷ [])
+from_the_last rs s = kind_stages rs s ++ field_stages rs s ++ bit_stages rs s ++ (operand_stage rs s field.C ∷ operand_stage rs s field.B ∷ operand_stage rs s field.A ∷ [])
 
 abbrev pub tests_from_the_last : Program
 tests_from_the_last t =
     let rs = records_of t in
     let v = first_of (size_group words t ++ slot_by_slot (from_the_last rs) (length rs) ++ loop_group rs) in
-    (check_figures (checked_by v (length t / 16) (gate_count rs)), reply)
+    (check_figures (answer_by v (counts_of (length t / 16) (gate_count rs))), reply)
 
 -- checks, and tells the same field whatever it answers; 0 is what was told before the request
 abbrev pub with_field : ℕ → Told → Told
@@ -95,7 +96,7 @@ looks_through t = (written_figures (rewrite_answer replaced_operands words t rep
 -- merges, and sets the flag whenever the ticket got shorter
 abbrev pub flags_where_shorter : Program
 flags_where_shorter t =
-    (merged_figures (merged_by (check_verdict words t) (length (merge_bytes t)) (ltb (length (merge_bytes t)) (length t))), merge_reply words t reply)
+    (merged_figures (answer_by (check_verdict words t) (merged_of (length (merge_bytes t)) (ltb (length (merge_bytes t)) (length t)))), merge_reply words t reply)
 
 -- merges, and writes the operands as they are sorted in the keys
 abbrev pub with_keys : Netlist → Netlist

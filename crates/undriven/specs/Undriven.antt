@@ -1,7 +1,6 @@
 -- Which field refusal 7 names, and that every call tells it (request 2026-06). Assumes nothing: these are definitions.
-use Rattle.std.specs.Prelude.{◌≡◌, true, false, ◌↔◌, List, ℕ, ◌<◌, length}
+use Rattle.std.specs.Prelude.{◌≡◌, true, false, ◌↔◌, List, ℕ, ◌<◌, length, Ok}
 use Rattle.cell.specs.Records.{records_of, record_in}
-use Rattle.refusals.specs.declared.Verdict.TheVariants.{Pass}
 use Rattle.refusals.specs.Refusals.{first_of}
 use Rattle.checking.specs.Checking.{unknown_kind, reserved_field, bit_out_of_sequence, undriven_field, record_stages, size_group}
 use Rattle.rewrite.specs.Rewriter.{Lookup}
@@ -11,9 +10,9 @@ use Rattle.calls.specs.Calls.{check_answer, level_answer, compact_answer, merge_
 -- with so many work words a ticket passes 1 to 3, its records below s pass 4 to 7, that of s passes 4, 5 and 6, and f is the first of its
 -- fields that fails 7, 1 for a, 2 for b, 3 for c; no other fails (`failing-field`, `checking/proofs/Groups.antt`)
 pub record UndrivenAt (words : ℕ) (t : List ℕ) (s f : ℕ) : Type 0 where
-  pub sizes : first_of (size_group words t) ≡ Pass
+  pub sizes : first_of (size_group words t) ≡ Ok tt
   pub there : s < length (records_of t)
-  pub lower : (i : ℕ) → i < s → first_of (record_stages (records_of t) i) ≡ Pass
+  pub lower : (i : ℕ) → i < s → first_of (record_stages (records_of t) i) ≡ Ok tt
   pub kind : unknown_kind (record_in (records_of t) s) ≡ false  -- 4
   pub reserved : reserved_field (record_in (records_of t) s) ≡ false  -- 5
   pub bit : bit_out_of_sequence (records_of t) s ≡ false  -- 6

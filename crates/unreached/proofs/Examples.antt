@@ -17,7 +17,7 @@ use Rattle.order.specs.Walk.{each, down, walk, walk_from}
 use Rattle.order.specs.Orders.{bit_deps, topo_sort}
 use Rattle.design.specs.Queue.{net_in, unchanged, followed, map_net_new, find_new_cell, applied}
 use Rattle.numberer.specs.Numberer.{seek}
-use Rattle.normalize.specs.Outcomes.{from_control, ◌or_else◌}
+use Rattle.normalize.specs.Outcomes.{from_control, first_change}
 use Rattle.normalize.specs.Normalize.{normalize}
 use Rattle.aig.specs.Aig.{if_not, if_aig, if_xor, aig_of_not, aig_of_and, aig_of_nand, aig_of_xor, aig_order, aig_rule, simple_aig_opt}
 use Rattle.rewrite.specs.Rewriter.{begun, stamp, find_cell, finished, weight}
@@ -36,7 +36,7 @@ abbrev loop : List Cell
 loop = Aig (Pos (net_in 1)) (Pos (net_in 1)) ∷ Aig (Pos (net_in 0)) (Pos (net_in 0)) ∷ Output (net_in 0) 9 ∷ []
 
 pub loop-stops : EachItem find_new_cell PassGoes (ItemGoes loop) (QueueGoes loop) [] (topo_sort loop) (begun loop) → ⊥
-unfolding eq_net le_net le_control eq_control driver tabulate visit visit_mut has_effects those joined sources each down walk walk_from bit_deps topo_sort unchanged followed map_net_new find_new_cell applied seek ◌or_else◌ from_control normalize aig_order aig_rule simple_aig_opt stamp find_cell finished weight rules process process_cell run_item unalived EachPass EachItem All has
+unfolding eq_net le_net le_control eq_control driver tabulate visit visit_mut has_effects those joined sources each down walk walk_from bit_deps topo_sort unchanged followed map_net_new find_new_cell applied seek first_change from_control normalize aig_order aig_rule simple_aig_opt stamp find_cell finished weight rules process process_cell run_item unalived EachPass EachItem All has
 loop-stops h = true≢false ((h.2.2.2.alive 2 (omega arith)).0 (slot_at 0) refl)
 
 -- an and-inverter that takes another form in its slot is not void, one that a value stands for is
@@ -44,5 +44,5 @@ abbrev gates : List Cell
 gates = Input 1 ∷ Input 2 ∷ Aig (Pos (net_in 1)) (Pos (net_in 0)) ∷ Aig (Pos (net_in 0)) (Pos (net_in 0)) ∷ []
 
 pub void-by-value : (unalived find_new_cell 2 (begun gates) ≡ []) × (unalived find_new_cell 3 (begun gates) ≡ 3 ∷ [])
-unfolding eq_net le_net le_control eq_control is_always canonicalize not_control driver tabulate visit_mut unchanged followed map_net_new seek ◌or_else◌ from_control normalize if_not if_aig if_xor aig_of_not aig_of_and aig_of_nand aig_of_xor aig_order aig_rule simple_aig_opt stamp find_cell weight rules process process_cell unalived
+unfolding eq_net le_net le_control eq_control is_always canonicalize not_control driver tabulate visit_mut unchanged followed map_net_new seek first_change from_control normalize if_not if_aig if_xor aig_of_not aig_of_and aig_of_nand aig_of_xor aig_order aig_rule simple_aig_opt stamp find_cell weight rules process process_cell unalived
 void-by-value = (refl, refl)

@@ -1,4 +1,4 @@
--- Nothing stops the Rust in merging: at each bit the net found is that of a slot, and the bit's own net is replaced for the first time.
+-- None stops the Rust in merging: at each bit the net found is that of a slot, and the bit's own net is replaced for the first time.
 -- Assumes nothing.
 use mathlib.Core.Path.{◌≡◌, refl}
 use mathlib.Core.List.{List, [], ◌∷◌, ◌++◌, map}
@@ -8,8 +8,7 @@ use Rattle.value.specs.declared.Net.{Net}
 use Rattle.cell.specs.declared.Cell.{Cell}
 use Rattle.netlist.specs.Shape.{visit_mut}
 use Rattle.netlist.specs.Netlist.{Netlist, cell_in, output_of}
-use Rattle.numberer.specs.declared.Found.{Found}
-use Rattle.numberer.specs.declared.Found.TheVariants.{Nothing, At}
+use Rattle.std.proofs.Common.{Option, Some, None}
 use Rattle.design.specs.Queue.{net_in, map_net_new}
 use Rattle.numberer.specs.Numberer.{seek}
 use Rattle.merge.specs.Merge.{key_of, Merging, find_or_insert, merge_cell}
@@ -32,19 +31,19 @@ module _ (d : Netlist) (rank : ℕ → ℕ) (sound : Sound d rank) where
   Goes m = BitGoes total m.design
 
   -- the numberer has nets of slots only
-  there : (done : List ℕ) (m : Merging) (key : Cell) (i : ℕ) → i < total → Chains d rank sound done m → (f : Found) → seek m.numberer key ≡ f → SlotNet total (canon i f)
-  there done m key i l c (At n) e =
+  there : (done : List ℕ) (m : Merging) (key : Cell) (i : ℕ) → i < total → Chains d rank sound done m → (f : Option Net) → seek m.numberer key ≡ f → SlotNet total (canon i f)
+  there done m key i l c (Some n) e =
       let r : Root d rank sound done m.design.replaced n =
       seek_finds (λ k y. Root d rank sound done m.design.replaced y) m.numberer key n c.known e in
       record { slot = r.slot; below = r.small; is = r.is }
-  there done m key i l c Nothing e = record { slot = i; below = l; is = refl }
+  there done m key i l c None e = record { slot = i; below = l; is = refl }
 
   each-bit : (key : ℕ → Cell) (is done : List ℕ) (m : Merging) → All (λ i. i < total) is → OnceAfter done is → Chains d rank sound done m
       → EachBit Goes m (map (λ i. (key i, i)) is)
   unfolding EachBit OnceAfter All
   each-bit key [] done m l o c = tt
   each-bit key (i ∷ is) done m l o c =
-      let f : Found = seek m.numberer (key i) in (
+      let f : Option Net = seek m.numberer (key i) in (
         record { there = there done m (key i) i l.0 c f refl; once = c.waits i (net_in i) l.0 o.0 },
         each-bit key is (done ++ (i ∷ [])) (find_or_insert m (key i) i f) l.1 o.1 (numbered-chains d rank sound done i l.0 o.0 m (key i) f refl c),
       )

@@ -8,11 +8,11 @@ use lib.ListN.{length, length-append}
 use Rattle.value.specs.declared.Net.{Net}
 use Rattle.cell.specs.declared.Cell.{Cell}
 use Rattle.cell.specs.declared.Cell.TheVariants.{Not}
-use Rattle.numberer.specs.declared.Found.{Found}
-use Rattle.numberer.specs.declared.Found.TheVariants.{Nothing, At}
+use Rattle.std.proofs.Common.{Option, Some}
 use Rattle.numberer.specs.Numberer.{seek}
-use Rattle.normalize.specs.declared.Outcome.{Outcome}
-use Rattle.normalize.specs.declared.Outcome.TheVariants.{None, Value, Form, Add, NotOf, AddNotOf}
+use Rattle.std.specs.Prelude.{None, Some}
+use Rattle.normalize.specs.Outcomes.{Outcome}
+use Rattle.normalize.specs.declared.Change.TheVariants.{Value, Form, Add, NotOf, AddNotOf}
 use Rattle.rewrite.specs.Rewriter.{Rewriter, Lookup, entered}
 use Rattle.rewrite.specs.Rewrite.{rules, Result, none, cell, value, spent, Added, at, unadded, as_value, as_not, add_not, perform, enter, asked, replacing, go_on, process}
 use Rattle.aig_laws.specs.Reads.{GoodOutcome}
@@ -49,9 +49,9 @@ inverse_left : (y : Added) → left (as_not y) ≡ after y
 inverse_left (at n r) = refl
 inverse_left (unadded r) = refl
 
-asked-left : (r : Rewriter) (f : Found) → left (asked r f) ≡ size r
-asked-left r (At n) = refl
-asked-left r Nothing = refl
+asked-left : (r : Rewriter) (f : Option Net) → left (asked r f) ≡ size r
+asked-left r (Some n) = refl
+asked-left r None = refl
 
 replacing-left : (d : Cell) (x : Result) → left (replacing d x) ≡ left x
 replacing-left d (none r) = refl
@@ -103,11 +103,11 @@ module _ (look : Lookup) (P : Rewriter → Type 0) (Q : Rewriter → Cell → Ty
   each-added : (k : ℕ) → Each k → (r : Rewriter) (o : Outcome) → P r → GoodOutcome (Q r) (N r) o → left (perform (adder look k) r o) ≤ most
       → InAdded (EachPass look T k) (adder look k) r o
   each-added k ih r None p g few = tt
-  each-added k ih r (Value n) p g few = tt
-  each-added k ih r (Form c) p g few = tt
-  each-added k ih r (Add c) p g few = ih r c p g (omega (arith, few, value-left (adder look k r c), enter-left c (process k look r c)))
-  each-added k ih r (NotOf c) p g few = ih r c p g (omega (arith, few, inverse_left (adder look k r c), enter-left c (process k look r c)))
-  each-added k ih r (AddNotOf c) p g few = each_both k ih r c p g few
+  each-added k ih r (Some (Value n)) p g few = tt
+  each-added k ih r (Some (Form c)) p g few = tt
+  each-added k ih r (Some (Add c)) p g few = ih r c p g (omega (arith, few, value-left (adder look k r c), enter-left c (process k look r c)))
+  each-added k ih r (Some (NotOf c)) p g few = ih r c p g (omega (arith, few, inverse_left (adder look k r c), enter-left c (process k look r c)))
+  each-added k ih r (Some (AddNotOf c)) p g few = each_both k ih r c p g few
 
   each-form : (k : ℕ) → Each k → (c : Cell) (x : Result) → KeptPass look P Q N keeps c x → left (go_on (process k look) c x) ≤ most → InForm (EachPass look T k) x
   each-form k ih c (none r) h few = tt

@@ -4,10 +4,10 @@ use mathlib.Core.Bool.{false}
 use mathlib.Core.List.{List, []}
 use mathlib.Core.Logic.{◌⊎◌, inl, inr}
 use Prim.Native.Nat.{ℕ, ◌≤◌}
+use Rattle.std.specs.Prelude.{Ok}
 use Rattle.cell.specs.declared.Cell.{Cell}
 use Rattle.cell.specs.Records.{records_of}
 use Rattle.loops.proofs.Rank.{rank}
-use Rattle.refusals.specs.declared.Verdict.TheVariants.{Pass}
 use Rattle.netlist.specs.Shape.{visit, has_effects, is_splittable}
 use Rattle.netlist.specs.Netlist.{netlist_of, cell_in}
 use Rattle.order.specs.Orders.{topo_sort}
@@ -43,7 +43,7 @@ queue-goes cs r end void gone = record {
     go c₀ c (inl e) = inl e
     go c₀ c (inr h) = inr (h.0.0, h.0.1, h.1)
 
-module _ (words : ℕ) (t : List ℕ) (pass : check_verdict words t ≡ Pass) where
+module _ (words : ℕ) (t : List ℕ) (pass : check_verdict words t ≡ Ok tt) where
   pub ticket-complete : Complete (decoded t)
   ticket-complete = sound-complete (decoded t) (rank (records_of t)) (ticket-sound words t pass)
 

@@ -1,25 +1,24 @@
 -- What is said at each step of merging and of rewriting. Each definition goes along the one that it is named with. Assumes nothing: these are
 -- definitions.
-use Rattle.std.specs.Prelude.{cond, List, [], ◌∷◌, ◌++◌, map, ℕ, zero, suc}
+use Rattle.std.specs.Prelude.{cond, List, [], ◌∷◌, ◌++◌, map, ℕ, zero, suc, None, Some}
 use Rattle.value.specs.declared.Net.{Net}
 use Rattle.cell.specs.declared.Cell.{Cell}
 use Rattle.cell.specs.declared.Cell.TheVariants.{Not}
 use Rattle.netlist.specs.Shape.{visit_mut, is_splittable}
 use Rattle.netlist.specs.Netlist.{Netlist, cell_in, output_of}
-use Rattle.numberer.specs.declared.Found.{Found}
-use Rattle.numberer.specs.declared.Found.TheVariants.{Nothing, At}
+use Rattle.std.specs.Prelude.{Option, Some}
 use Rattle.design.specs.Queue.{net_in, map_net_new}
 use Rattle.numberer.specs.Numberer.{seek}
 use Rattle.merge.specs.Merge.{key_of, Merging, find_or_insert, merge_cell}
-use Rattle.normalize.specs.declared.Outcome.{Outcome}
-use Rattle.normalize.specs.declared.Outcome.TheVariants.{None, Value, Form, Add, NotOf, AddNotOf}
+use Rattle.normalize.specs.Outcomes.{Outcome}
+use Rattle.normalize.specs.declared.Change.TheVariants.{Value, Form, Add, NotOf, AddNotOf}
 use Rattle.rewrite.specs.Rewriter.{Rewriter, Lookup, weight}
 use Rattle.rewrite.specs.Rewrite.{rules, Result, none, cell, value, spent, Added, at, unadded, perform, enter, process, process_cell, Run, ran, stuck, run_item}
 
 -- Merging. The net that `Numberer::find_or_insert` gives for a slot's net: `canon` in `merge`
-abbrev pub canon : ℕ → Found → Net
-canon s (At n) = n
-canon s Nothing = net_in s
+abbrev pub canon : ℕ → Option Net → Net
+canon s (Some n) = n
+canon s None = net_in s
 
 -- the keys of `merge_cell`
 abbrev pub keyed : Netlist → Merging → ℕ → List (Cell × ℕ)
@@ -46,11 +45,11 @@ InInverse again (unadded r) = Unit {0}
 
 abbrev pub InAdded : (Rewriter → Cell → Type 0) → (Rewriter → Cell → Added) → Rewriter → Outcome → Type 0
 InAdded again adder r None = Unit {0}
-InAdded again adder r (Value n) = Unit {0}
-InAdded again adder r (Form c) = Unit {0}
-InAdded again adder r (Add c) = again r c
-InAdded again adder r (NotOf c) = again r c
-InAdded again adder r (AddNotOf c) = again r c × InInverse again (adder r c)
+InAdded again adder r (Some (Value n)) = Unit {0}
+InAdded again adder r (Some (Form c)) = Unit {0}
+InAdded again adder r (Some (Add c)) = again r c
+InAdded again adder r (Some (NotOf c)) = again r c
+InAdded again adder r (Some (AddNotOf c)) = again r c × InInverse again (adder r c)
 
 -- in the form that it leaves
 abbrev pub InForm : (Rewriter → Cell → Type 0) → Result → Type 0

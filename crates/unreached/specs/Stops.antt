@@ -7,7 +7,7 @@ use Rattle.netlist.specs.Shape.{visit, has_effects, is_splittable}
 use Rattle.netlist.specs.Netlist.{Netlist, cell_in, start_of, output_of}
 use Rattle.basics.specs.Lists.{those, has, All}
 use Rattle.order.specs.Orders.{topo_sort, iter_cells_topo}
-use Rattle.numberer.specs.declared.Found.TheVariants.{At}
+use Rattle.std.specs.Prelude.{Some}
 use Rattle.design.specs.Queue.{Design, net_in, unchanged, map_net_new, find_new_cell, applied}
 use Rattle.numberer.specs.Numberer.{seek}
 use Rattle.compact.specs.Compact.{keep, is_kept}
@@ -68,7 +68,7 @@ pub record PassGoes (void : List ℕ) (r : Rewriter) (c : Cell) : Type 0 where
   pub room : length r.design.cells ≤ 1024
   -- no rule looks up what an input or output reads
   pub sources : has_effects c ≡ false → All (Located void r.design) (visit c)
-  pub cached : (m : Net) → seek r.cache c ≡ At m → Located void r.design m
+  pub cached : (m : Net) → seek r.cache c ≡ Some m → Located void r.design m
 
 -- an item of `Rewriter::run`; cs are the cells of the ticket
 pub record ItemGoes (cs : List Cell) (s : ℕ) (r : Rewriter) : Type 0 where

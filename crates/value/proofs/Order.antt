@@ -1,12 +1,18 @@
 -- What a test has to be to sort by, and that both orders are so: that of nets and that of control nets.
+-- The derived comparisons answer as these tests.
 -- Assumes nothing.
 use mathlib.Core.Path.{◌≡◌, refl, ap}
-use mathlib.Core.Bool.{Bool, true, false, true≢false, false≢true}
+use mathlib.Core.Bool.{Bool, true, false, not, true≢false, false≢true}
 use native.Mathlib.Omega.{arith}
 use borrow.Author.Tests.{leb-true, leb-false, le-leb}
+use Rattle.std.specs.Ordering.{is_le, is_gt, nat_cmp, partial_le, partial_gt}
+use Rattle.std.proofs.lemmas.Bool.Decides.{nat_tests}
+use Rattle.value.specs.declared.Net.{Net}
+use Rattle.value.specs.contracts.ControlNetPartialEq.TheImpl.{eq-value}
+use Rattle.value.specs.contracts.ControlNetPartialOrd.TheImpl.{partial_cmp-value}
 use Rattle.value.specs.declared.ControlNet.{ControlNet}
 use Rattle.value.specs.declared.ControlNet.TheVariants.{Pos, Neg}
-use Rattle.value.specs.Value.{le_net, le_control, net_at}
+use Rattle.value.specs.Value.{eq_net, le_net, eq_control, le_control, net_at}
 
 pub record Order {A : Type 0} (le : A → A → Bool) : Type 0 where
   pub total : (a b : A) → le a b ≡ false → le b a ≡ true
@@ -54,3 +60,33 @@ control-trans (Neg a) (Neg b) (Neg c) p q = net-order.trans a b c p q
 
 pub control-order : Order le_control
 control-order = record { total = control-total; antisym = control-antisym; trans = control-trans }
+
+-- what `==`, `<=` and `>` answer; `==` of nets computes to `eq_net`
+pub net_le-is : (a b : Net) → is_le (nat_cmp a.0 b.0) ≡ le_net a b
+unfolding le_net
+net_le-is a b = grind (arith, nat_tests)
+
+pub control_eq-is : (a b : ControlNet) → eq-value.it a b ≡ eq_control a b
+unfolding eq_control eq_net
+control_eq-is (Pos a) (Pos b) = refl
+control_eq-is (Pos a) (Neg b) = refl
+control_eq-is (Neg a) (Pos b) = refl
+control_eq-is (Neg a) (Neg b) = refl
+
+pub control_le-is : (a b : ControlNet) → partial_le partial_cmp-value.it a b ≡ le_control a b
+unfolding le_control
+control_le-is (Pos a) (Pos b) = net_le-is a b
+control_le-is (Pos a) (Neg b) = refl
+control_le-is (Neg a) (Pos b) = refl
+control_le-is (Neg a) (Neg b) = net_le-is a b
+
+pub net_gt-is : (a b : Net) → is_gt (nat_cmp a.0 b.0) ≡ not (le_net a b)
+unfolding le_net
+net_gt-is a b = grind (arith, nat_tests)
+
+pub control_gt-is : (a b : ControlNet) → partial_gt partial_cmp-value.it a b ≡ not (le_control a b)
+unfolding le_control
+control_gt-is (Pos a) (Pos b) = net_gt-is a b
+control_gt-is (Pos a) (Neg b) = refl
+control_gt-is (Neg a) (Pos b) = refl
+control_gt-is (Neg a) (Neg b) = net_gt-is a b

@@ -2,43 +2,32 @@
 #![tactic(auto)]
 
 ghost use Rattle.std.specs.Prelude.{◌≡◌, ◌≤◌};
-ghost use Rattle.value.specs.Value.{net_of, driver, eq_net, le_net, from_net_invert, net, is_positive, is_negative, is_always, canonicalize, not_control, eq_control, le_control};
+ghost use Rattle.value.specs.Value.{net_of, driver, from_net_invert, net, is_positive, is_negative, is_always, canonicalize, not_control};
 
 use logic::Trit;
+use std::ops::Not;
 
 // A net's index: 0 and 1 are the constants zero and one, 4294967295 is undefined, any other is a slot's number plus two.
-#[derive(Clone, Copy)]
+// By index, so undefined is last.
+#[derive(Clone, Copy, Debug, PartialEq, Eq, PartialOrd, Ord, Hash)]
 pub struct Net(pub u32);
 
 // A slot's number: the cell index of the Rust.
-#[derive(Clone, Copy)]
+#[derive(Clone, Copy, Debug, PartialEq, Eq, PartialOrd, Ord, Hash)]
 pub struct Slot(pub u32);
 
-// A net that can be negated.
-#[derive(Clone, Copy)]
+// A net that can be negated: all positive before all negative, then by index.
+#[derive(Clone, Copy, Debug, PartialEq, Eq, PartialOrd, Ord, Hash)]
 pub enum ControlNet {
     Pos(Net),
     Neg(Net),
 }
 
 // What drives a net.
-#[derive(Clone, Copy)]
+#[derive(Clone, Copy, Debug, PartialEq, Eq)]
 pub enum Driver {
     Const(Trit),
     Cell(Slot),
-}
-
-pub fn net_eq(a: Net, b: Net) -> bool
-    ensures { result ≡ eq_net a b }
-{
-    a.0 == b.0
-}
-
-// By index, so undefined is last.
-pub fn net_le(a: Net, b: Net) -> bool
-    ensures { result ≡ le_net a b }
-{
-    a.0 <= b.0
 }
 
 impl Net {
@@ -60,46 +49,15 @@ impl Net {
     {
         let i = self.0;
         if 2 <= i {
-            if net_eq(self, Net::UNDEF) {
+            if self == Net::UNDEF {
                 return Driver::Const(Trit::Undef);
             }
             return Driver::Cell(Slot(i - 2));
         }
-        if net_eq(self, Net::ZERO) {
+        if self == Net::ZERO {
             return Driver::Const(Trit::Zero);
         }
         Driver::Const(Trit::One)
-    }
-}
-
-pub fn control_eq(a: ControlNet, b: ControlNet) -> bool
-    ensures { result ≡ eq_control a b }
-{
-    match a {
-        ControlNet::Pos(x) => match b {
-            ControlNet::Pos(y) => net_eq(x, y),
-            ControlNet::Neg(_) => false,
-        },
-        ControlNet::Neg(x) => match b {
-            ControlNet::Pos(_) => false,
-            ControlNet::Neg(y) => net_eq(x, y),
-        },
-    }
-}
-
-// All positive before all negative, then by index.
-pub fn control_le(a: ControlNet, b: ControlNet) -> bool
-    ensures { result ≡ le_control a b }
-{
-    match a {
-        ControlNet::Pos(x) => match b {
-            ControlNet::Pos(y) => net_le(x, y),
-            ControlNet::Neg(_) => true,
-        },
-        ControlNet::Neg(x) => match b {
-            ControlNet::Pos(_) => false,
-            ControlNet::Neg(y) => net_le(x, y),
-        },
     }
 }
 
@@ -147,16 +105,16 @@ impl ControlNet {
         match self {
             ControlNet::Pos(n) => {
                 if active {
-                    net_eq(n, Net::ONE)
+                    n == Net::ONE
                 } else {
-                    net_eq(n, Net::ZERO)
+                    n == Net::ZERO
                 }
             }
             ControlNet::Neg(n) => {
                 if active {
-                    net_eq(n, Net::ZERO)
+                    n == Net::ZERO
                 } else {
-                    net_eq(n, Net::ONE)
+                    n == Net::ONE
                 }
             }
         }
@@ -169,23 +127,27 @@ impl ControlNet {
         match self {
             ControlNet::Pos(n) => ControlNet::Pos(n),
             ControlNet::Neg(n) => {
-                if net_eq(n, Net::UNDEF) {
+                if n == Net::UNDEF {
                     return ControlNet::Pos(n);
                 }
-                if net_eq(n, Net::ZERO) {
+                if n == Net::ZERO {
                     return ControlNet::Pos(Net::ONE);
                 }
-                if net_eq(n, Net::ONE) {
+                if n == Net::ONE {
                     return ControlNet::Pos(Net::ZERO);
                 }
                 ControlNet::Neg(n)
             }
         }
     }
+}
 
-    pub fn not(self) -> ControlNet
-        ensures { result ≡ not_control self }
-    {
+impl Not for ControlNet {
+    type Output = ControlNet;
+
+    ghost not_gives = { λ p r. r ≡ not_control p };
+
+    fn not(self) -> ControlNet {
         match self {
             ControlNet::Pos(n) => ControlNet::Neg(n).canonicalize(),
             ControlNet::Neg(n) => ControlNet::Pos(n).canonicalize(),

@@ -1,46 +1,42 @@
 -- The operands of a looked-up cell, as the code takes them apart. Assumes nothing: these are definitions.
+use Rattle.std.specs.Prelude.{Option, None, Some}
+use Rattle.value.specs.declared.Net.{Net}
+use Rattle.value.specs.declared.ControlNet.{ControlNet}
 use Rattle.cell.specs.declared.Cell.TheVariants.{Input, Output, Buf, Not, And, Or, Xor, Mux, Aig}
-use Rattle.design.specs.declared.Source.{Source}
-use Rattle.design.specs.declared.Source.TheVariants.{Opaque, Known}
-use Rattle.aig.specs.declared.Inverter.{Inverter}
-use Rattle.aig.specs.declared.Inverter.TheVariants as inverter
-use Rattle.aig.specs.declared.AndInverter.{AndInverter}
-use Rattle.aig.specs.declared.AndInverter.TheVariants as and_inverter
-use Rattle.aig.specs.declared.XorGate.{XorGate}
-use Rattle.aig.specs.declared.XorGate.TheVariants as xor_gate
+use Rattle.design.specs.Queue.{Source}
 
-unfoldable pub not_in : Source → Inverter
-not_in Opaque = inverter.Other
-not_in (Known (Not v)) = inverter.Of v
-not_in (Known (Input l)) = inverter.Other
-not_in (Known (Output a l)) = inverter.Other
-not_in (Known (Buf a)) = inverter.Other
-not_in (Known (And a b)) = inverter.Other
-not_in (Known (Or a b)) = inverter.Other
-not_in (Known (Xor a b)) = inverter.Other
-not_in (Known (Mux a b c)) = inverter.Other
-not_in (Known (Aig p q)) = inverter.Other
+unfoldable pub not_in : Source → Option Net
+not_in None = None
+not_in (Some (Not v)) = Some v
+not_in (Some (Input l)) = None
+not_in (Some (Output a l)) = None
+not_in (Some (Buf a)) = None
+not_in (Some (And a b)) = None
+not_in (Some (Or a b)) = None
+not_in (Some (Xor a b)) = None
+not_in (Some (Mux a b c)) = None
+not_in (Some (Aig p q)) = None
 
-unfoldable pub aig_in : Source → AndInverter
-aig_in Opaque = and_inverter.Other
-aig_in (Known (Aig p q)) = and_inverter.Of p q
-aig_in (Known (Input l)) = and_inverter.Other
-aig_in (Known (Output a l)) = and_inverter.Other
-aig_in (Known (Buf a)) = and_inverter.Other
-aig_in (Known (Not a)) = and_inverter.Other
-aig_in (Known (And a b)) = and_inverter.Other
-aig_in (Known (Or a b)) = and_inverter.Other
-aig_in (Known (Xor a b)) = and_inverter.Other
-aig_in (Known (Mux a b c)) = and_inverter.Other
+unfoldable pub aig_in : Source → Option (ControlNet × ControlNet)
+aig_in None = None
+aig_in (Some (Aig p q)) = Some (p, q)
+aig_in (Some (Input l)) = None
+aig_in (Some (Output a l)) = None
+aig_in (Some (Buf a)) = None
+aig_in (Some (Not a)) = None
+aig_in (Some (And a b)) = None
+aig_in (Some (Or a b)) = None
+aig_in (Some (Xor a b)) = None
+aig_in (Some (Mux a b c)) = None
 
-unfoldable pub xor_in : Source → XorGate
-xor_in Opaque = xor_gate.Other
-xor_in (Known (Xor a b)) = xor_gate.Of a b
-xor_in (Known (Input l)) = xor_gate.Other
-xor_in (Known (Output a l)) = xor_gate.Other
-xor_in (Known (Buf a)) = xor_gate.Other
-xor_in (Known (Not a)) = xor_gate.Other
-xor_in (Known (And a b)) = xor_gate.Other
-xor_in (Known (Or a b)) = xor_gate.Other
-xor_in (Known (Mux a b c)) = xor_gate.Other
-xor_in (Known (Aig p q)) = xor_gate.Other
+unfoldable pub xor_in : Source → Option (Net × Net)
+xor_in None = None
+xor_in (Some (Xor a b)) = Some (a, b)
+xor_in (Some (Input l)) = None
+xor_in (Some (Output a l)) = None
+xor_in (Some (Buf a)) = None
+xor_in (Some (Not a)) = None
+xor_in (Some (And a b)) = None
+xor_in (Some (Or a b)) = None
+xor_in (Some (Mux a b c)) = None
+xor_in (Some (Aig p q)) = None

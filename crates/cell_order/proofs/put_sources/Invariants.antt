@@ -1,10 +1,6 @@
 -- `cell_order::put_sources` meets its contract. Assumes nothing.
-use Prim.Native.Nat.{◌-◌}
 use Rattle.cell_order.proofs.Starts.{Putting}
 use Rattle.cell_order.proofs.put_sources.Given as goal
 
 abbrev pub invariant-loop-s : goal.invariant-loop-s
 invariant-loop-s l = Putting l.n l.initial.work l.work l.count l.s
-
-abbrev pub decreases-loop-s : goal.decreases-loop-s
-decreases-loop-s l = l.n - l.s

@@ -8,20 +8,11 @@ use Rattle.checking.proofs.gate_count.Goals as goal
 pub loop-s-init : goal.loop-s-init
 loop-s-init c = search counts-none
 
-pub kind_at-requires : goal.kind_at-requires
-kind_at-requires c = omega arith
-
 pub overflow_add-sum : goal.overflow_add-sum
 overflow_add-sum c = omega (arith, gates-one c.kind_at.result, ap (λ (x : Kind). x.gates) c.kind_of-sum.ensures)
-
-pub overflow_add-s : goal.overflow_add-s
-overflow_add-s c = omega arith
-
-pub loop-s-smaller : goal.loop-s-smaller
-loop-s-smaller c = omega arith
 
 pub loop-s-preserved : goal.loop-s-preserved
 loop-s-preserved c = search counts-more
 
 pub returns : goal.returns
-returns c = search counts_all
+returns c = counts_all _ _ _ c.loop-s.invariant (omega arith)

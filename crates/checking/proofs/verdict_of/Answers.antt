@@ -1,12 +1,11 @@
 use Rattle.checking.proofs.Netlist.{torn, too_many, netlist-decides}
-use borrow.Author.Rules.{rules}
 use Rattle.checking.proofs.verdict_of.Goals as goal
 
-pub returns-then-rest-ne0 : goal.returns-then-rest-ne0
-returns-then-rest-ne0 c = record { value = search torn; work_unchanged = search rules }
+pub returns-then-t-ne0-clause-value : goal.returns-then-t-ne0-clause-value
+returns-then-t-ne0-clause-value c = search torn
 
-pub returns-then-n-gt512 : goal.returns-then-n-gt512
-returns-then-n-gt512 c = record { value = search too_many; work_unchanged = search rules }
+pub returns-then-t-gt512-clause-value : goal.returns-then-t-gt512-clause-value
+returns-then-t-gt512-clause-value c = search too_many
 
-pub returns : goal.returns
-returns c = record { value = search netlist-decides; work_unchanged = search rules }
+pub returns-clause-value : goal.returns-clause-value
+returns-clause-value c = search netlist-decides

@@ -1,5 +1,4 @@
 use Rattle.compact.proofs.Compacting.{writing-none, writing-room, writing_more, writing-all}
-use native.Mathlib.Omega.{arith}
 use borrow.Author.Rules.{rules}
 use Rattle.compact.proofs.compact.Goals as goal
 
@@ -8,12 +7,6 @@ loop-s-init c = search writing-none
 
 pub copy_kept-requires : goal.copy_kept-requires
 copy_kept-requires c = record { tallied = search rules; s_lt_n = search rules; total_in_bounds = search writing-room }
-
-pub overflow_add-s : goal.overflow_add-s
-overflow_add-s c = omega arith
-
-pub loop-s-smaller : goal.loop-s-smaller
-loop-s-smaller c = omega arith
 
 pub loop-s-preserved : goal.loop-s-preserved
 loop-s-preserved c = search writing_more

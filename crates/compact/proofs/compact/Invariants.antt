@@ -1,9 +1,5 @@
 use Rattle.compact.proofs.Compacting.{Writing}
-use Prim.Native.Nat.{◌-◌}
 use Rattle.compact.proofs.compact.Given as goal
 
 abbrev pub invariant-loop-s : goal.invariant-loop-s
 invariant-loop-s l = Writing l.n l.work l.initial.reply l.reply l.s
-
-abbrev pub decreases-loop-s : goal.decreases-loop-s
-decreases-loop-s l = l.n - l.s

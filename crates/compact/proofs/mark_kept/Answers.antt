@@ -1,15 +1,8 @@
 use Rattle.compact.proofs.Keeping.{keeping-begins, keeping-more, keeping-ends}
-use native.Mathlib.Omega.{arith}
 use Rattle.compact.proofs.mark_kept.Goals as goal
 
 pub loop-s-init : goal.loop-s-init
 loop-s-init c = search keeping-begins
-
-pub overflow_add-s : goal.overflow_add-s
-overflow_add-s c = omega arith
-
-pub loop-s-smaller : goal.loop-s-smaller
-loop-s-smaller c = omega arith
 
 pub loop-s-preserved : goal.loop-s-preserved
 loop-s-preserved c = search keeping-more

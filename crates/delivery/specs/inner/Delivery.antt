@@ -1,16 +1,16 @@
 -- How a call begins, and how it decides, up to the wiping of the work slice. Public contracts do not cite this file. Assumes nothing: these are definitions.
-use Rattle.std.specs.Prelude.{◌≡◌, List, [], ◌∷◌, ℕ, ◌/◌, ◌<◌, ◌≤◌, length, drop}
+use Rattle.refusals.specs.declared.Refusal.{Refusal}
+use Rattle.std.specs.Prelude.{◌≡◌, List, [], ◌∷◌, ◌++◌, ℕ, ◌/◌, ◌<◌, ◌≤◌, length, drop, Ok, Result}
+use Rattle.std.specs.Borrow.{MutBor}
+use Rattle.std.specs.Fn.{Once}
 use Rattle.cell.specs.Limits.{work_words, max_records}
 use Rattle.cell.specs.Records.{records_of}
 use Rattle.netlist.specs.inner.Areas.{records_in}
 use Rattle.netlist.specs.Netlist.{netlist_of}
 use Rattle.compact.specs.Compact.{compact}
-use Rattle.refusals.specs.declared.Verdict.{Verdict}
-use Rattle.refusals.specs.declared.Verdict.TheVariants.{Pass}
-use Rattle.refusals.specs.Refusals.{Stage, first_of}
+use Rattle.refusals.specs.Refusals.{Stage, first_of, Verdict}
 use Rattle.checking.specs.Checking.{netlist_stages, check_stages}
-use Rattle.calls.specs.declared.Written.{Written}
-use Rattle.calls.specs.Answers.{written_by}
+use Rattle.calls.specs.Answers.{answer_by}
 use Rattle.calls.specs.Work.{cleared}
 use Rattle.calls.specs.Calls.{room, reply_after, encoded}
 
@@ -21,11 +21,11 @@ pub record Decides {A : Type 0} (answer : Verdict → A) (stages : List Stage) (
   pub rest : drop work_words ws' ≡ drop work_words ws
 
 -- the same where the answer counts the bytes written
-abbrev pub Writes : List Stage → List ℕ → List ℕ → List ℕ → List ℕ → List ℕ → Written → Type 0
-Writes stages bytes ws ws' reply reply' r = Decides (λ v. written_by v (length bytes)) stages bytes ws ws' reply reply' r
+abbrev pub Writes : List Stage → List ℕ → List ℕ → List ℕ → List ℕ → List ℕ → Result ℕ Refusal → Type 0
+Writes stages bytes ws ws' reply reply' r = Decides (λ v. answer_by v (length bytes)) stages bytes ws ws' reply reply' r
 
 -- and where 12 is the only stage
-abbrev pub Delivers : List ℕ → List ℕ → List ℕ → List ℕ → List ℕ → Written → Type 0
+abbrev pub Delivers : List ℕ → List ℕ → List ℕ → List ℕ → List ℕ → Result ℕ Refusal → Type 0
 Delivers bytes ws ws' reply reply' r = Writes (room reply bytes ∷ []) bytes ws ws' reply reply' r
 
 -- the bytes of the netlist of the first n slots, compacted
@@ -36,11 +36,39 @@ compacted_in n ws = encoded (compact (netlist_of (records_in n ws)))
 pub record Passed (t ws : List ℕ) : Type 0 where
   pub long : work_words ≤ length ws
   pub few : length t / 16 ≤ max_records
-  pub pass : first_of (netlist_stages (records_of t)) ≡ Pass
+  pub pass : first_of (netlist_stages (records_of t)) ≡ Ok tt
 
 -- 1 to 8 decided, and wiping the words leaves what it would have left before; a slice that is too short is as it was
 pub record Begins (t ws ws' : List ℕ) (v : Verdict) : Type 0 where
   pub said : v ≡ first_of (check_stages (length ws) t)
   pub rest : cleared ws' ≡ cleared ws
   pub short : length ws < work_words → ws' ≡ ws
-  pub pass : v ≡ Pass → Passed t ws'
+  pub pass : v ≡ Ok tt → Passed t ws'
+
+-- a call's own step: what it may answer and leave, of the work slice and the reply
+abbrev pub Step : Type 0 → Type 0 → Type 1
+Step F A = Once F (MutBor (List ℕ) × (MutBor (List ℕ) × Unit {0})) (Result A Refusal × (MutBor (List ℕ) × (MutBor (List ℕ) × Unit {0})))
+
+pub record Gives {F A : Type 0} (g : Step F A) (f : F) (ws ws' reply reply' : List ℕ) (r : Result A Refusal) : Type 0 where
+  pub words : MutBor (List ℕ)
+  pub room : MutBor (List ℕ)
+  pub words' : MutBor (List ℕ)
+  pub room' : MutBor (List ℕ)
+  pub shows : (words.now ≡ ws) × (room.now ≡ reply)
+  pub met : g.post f (words, (room, tt)) (r, (words', (room', tt)))
+  pub leaves : (words'.now ≡ ws') × (room'.now ≡ reply')
+
+-- it may be taken with a ticket that passed
+abbrev pub Takes : {F A : Type 0} → Step F A → F → List ℕ → Type 0
+Takes g f t = (words room : MutBor (List ℕ)) → Passed t words.now → g.pre f (words, (room, tt))
+
+-- and then it decides by stages of its own
+abbrev pub StepDecides : {F A : Type 0} → Step F A → F → A → List Stage → List ℕ → List ℕ → List ℕ → Type 0
+StepDecides {F} {A} g f told own bytes t reply = (ws ws' reply' : List ℕ) (r : Result A Refusal) → Passed t ws → Gives g f ws ws' reply reply' r
+    → Decides (λ v. answer_by v told) own bytes ws ws' reply reply' r
+
+-- 1 to 8 and then those decided answer and reply, and the work slice is wiped
+pub record Called {A : Type 0} (told : A) (own : List Stage) (bytes t ws ws' reply reply' : List ℕ) (r : Result A Refusal) : Type 0 where
+  pub said : r ≡ answer_by (first_of (check_stages (length ws) t ++ own)) told
+  pub left : reply' ≡ reply_after (first_of (check_stages (length ws) t ++ own)) reply bytes
+  pub wiped : ws' ≡ cleared ws

@@ -1,6 +1,13 @@
-use mathlib.Core.Path.{◌∙◌}
 use Rattle.kinds.proofs.Tests.{net-in-a-is}
+use Rattle.std.proofs.lemmas.Grind.{common_steps}
+use native.Mathlib.Omega.{arith}
 use Rattle.kinds.proofs.net_in_a.Goals as goal
 
-pub returns : goal.returns
-returns c = c.both.ensures ∙ net-in-a-is _
+pub returns-in-2-to-9 : goal.returns-in-2-to-9
+returns-in-2-to-9 c = grind (arith, common_steps, net-in-a-is c.args.kind)
+
+pub returns-in_default : goal.returns-in_default
+returns-in_default c = grind (arith, common_steps, net-in-a-is c.args.kind)
+
+pub returns-in_default-2 : goal.returns-in_default-2
+returns-in_default-2 c = grind (arith, common_steps, net-in-a-is c.args.kind)

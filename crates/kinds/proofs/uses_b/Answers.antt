@@ -1,6 +1,16 @@
-use mathlib.Core.Path.{◌∙◌}
 use Rattle.kinds.proofs.Tests.{uses-b-is}
+use Rattle.std.proofs.lemmas.Grind.{common_steps}
+use native.Mathlib.Omega.{arith}
 use Rattle.kinds.proofs.uses_b.Goals as goal
 
-pub returns : goal.returns
-returns c = c.either.ensures ∙ rw c.both.ensures (uses-b-is _)
+pub returns-then-kind : goal.returns-then-kind
+returns-then-kind c = grind (arith, common_steps, uses-b-is c.args.kind)
+
+pub returns-in-5-to-9 : goal.returns-in-5-to-9
+returns-in-5-to-9 c = grind (arith, common_steps, uses-b-is c.args.kind)
+
+pub returns-in_default : goal.returns-in_default
+returns-in_default c = grind (arith, common_steps, uses-b-is c.args.kind)
+
+pub returns-in_default-2 : goal.returns-in_default-2
+returns-in_default-2 c = grind (arith, common_steps, uses-b-is c.args.kind)

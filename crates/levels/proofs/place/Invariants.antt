@@ -1,9 +1,5 @@
 use Rattle.levels.proofs.Given.{Placing}
-use Prim.Native.Nat.{◌-◌}
 use Rattle.levels.proofs.place.Given as goal
 
 abbrev pub invariant-loop-s : goal.invariant-loop-s
 invariant-loop-s l = Placing l.n l.stimulus l.initial.work l.work l.s l.k
-
-abbrev pub decreases-loop-s : goal.decreases-loop-s
-decreases-loop-s l = l.n - l.s

@@ -1,9 +1,13 @@
 -- `levels_call::evaluated` meets its contract. Assumes nothing.
+use borrow.Author.Rules.{rules}
+use Rattle.std.proofs.lemmas.Result.{err_from_is_err_and}
 use Rattle.levels_call.proofs.Answering.{stimulus-refused, stimulus-passed}
 use Rattle.levels_call.proofs.evaluated.Goals as goal
 
-pub returns-in-Refused : goal.returns-in-Refused
-returns-in-Refused c = search stimulus-refused
+pub returns-in_err-stimulus_verdict : goal.returns-in_err-stimulus_verdict
+returns-in_err-stimulus_verdict c =
+    let p = err_from_is_err_and c.from_residual.result c.from_residual.ensures.1 in
+    rw (p.1, p.2) (stimulus-refused _ _ c.requires _ _ _ _ (search rules) (search rules) _ c.in_err-stimulus_verdict.ensures)
 
-pub returns-in-Pass : goal.returns-in-Pass
-returns-in-Pass c = search stimulus-passed
+pub returns : goal.returns
+returns c = stimulus-passed _ _ c.requires _ _ _ _ (search rules) (search rules) c.in_ok-stimulus_verdict.ensures _ _ _ c.written.ensures

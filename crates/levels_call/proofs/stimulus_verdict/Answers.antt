@@ -1,25 +1,16 @@
 -- `levels_call::stimulus_verdict` meets its contract. Assumes nothing.
-use Rattle.levels_call.proofs.Stimulus.{wrong-count, testing-none, no-level, testing-more, tested}
 use native.Mathlib.Omega.{arith}
+use borrow.Author.Rules.{rules}
+use Rattle.levels_call.proofs.Stimulus.{wrong-count, no-level, tested}
 use Rattle.levels_call.proofs.stimulus_verdict.Goals as goal
 
 pub returns-then-stimulus-count : goal.returns-then-stimulus-count
 returns-then-stimulus-count c = search wrong-count
 
-pub loop-i-init : goal.loop-i-init
-loop-i-init c = search testing-none
+pub returns-in-Some : goal.returns-in-Some
+returns-in-Some c =
+    let found = c.in-Some.ensures in
+    no-level _ _ _ _ c.count_kind-count.ensures (search rules) _ found.0 found.1 (λ k l. found.2 k 0 (omega arith) l)
 
-pub returns-then-byte-gt2 : goal.returns-then-byte-gt2
-returns-then-byte-gt2 c = search no-level
-
-pub overflow_add-i : goal.overflow_add-i
-overflow_add-i c = omega arith
-
-pub loop-i-smaller : goal.loop-i-smaller
-loop-i-smaller c = omega arith
-
-pub loop-i-preserved : goal.loop-i-preserved
-loop-i-preserved c = search testing-more
-
-pub returns : goal.returns
-returns c = search tested
+pub returns-in-None : goal.returns-in-None
+returns-in-None c = tested _ _ _ _ c.count_kind-count.ensures (search rules) (λ k l. c.in-None.ensures k 0 (omega arith) l)

@@ -5,11 +5,11 @@ use Rattle.logic.proofs.Laws.{byte-bound}
 use native.Mathlib.Omega.{arith}
 use Rattle.levels_call.proofs.write_at.Goals as goal
 
-pub overflow_cast-to_byte : goal.overflow_cast-to_byte
-overflow_cast-to_byte c = omega (arith, byte-bound c.level_at-t.result, c.to_byte.ensures)
+pub overflow_cast-from : goal.overflow_cast-from
+overflow_cast-from c = omega (arith, byte-bound c.level_at-t.result, c.from.ensures)
 
-pub returns-then-kind-eq-OUTPUT : goal.returns-then-kind-eq-OUTPUT
-returns-then-kind-eq-OUTPUT c = record { value = search one_more; upper_bound = omega arith; reply_after = search written-level }
+pub returns-then-kind : goal.returns-then-kind
+returns-then-kind c = record { value = search one_more; upper_bound = omega arith; reply_after = search written-level }
 
 pub returns : goal.returns
 returns c = record { value = search none_more; upper_bound = omega arith; reply_after = search no-level-written }

@@ -1,16 +1,9 @@
 -- `levels_call::write_levels` meets its contract. Assumes nothing.
 use Rattle.levels_call.proofs.Outputs.{writing-none, writing_more, writing-all}
-use native.Mathlib.Omega.{arith}
 use Rattle.levels_call.proofs.write_levels.Goals as goal
 
 pub loop-s-init : goal.loop-s-init
 loop-s-init c = search writing-none
-
-pub overflow_add-s : goal.overflow_add-s
-overflow_add-s c = omega arith
-
-pub loop-s-smaller : goal.loop-s-smaller
-loop-s-smaller c = omega arith
 
 pub loop-s-preserved : goal.loop-s-preserved
 loop-s-preserved c = search writing_more

@@ -1,6 +1,7 @@
 -- What the functions of the call `levels` tell of the work slice and the reply. Public contracts do not cite this file.
 -- Assumes nothing: these are definitions.
-use Rattle.std.specs.Prelude.{Bool, cond, List, [], ◌∷◌, ◌++◌, map, ℕ, eqb, get_or, set}
+use Rattle.refusals.specs.declared.Refusal.{Refusal}
+use Rattle.std.specs.Prelude.{Bool, cond, List, [], ◌∷◌, ◌++◌, map, ℕ, ◌≤◌, eqb, get_or, set, Result}
 use Rattle.logic.specs.declared.Trit.TheVariants.{Undef}
 use Rattle.logic.specs.Levels.{byte_of}
 use Rattle.kinds.specs.declared.Sort.TheVariants as sort
@@ -8,9 +9,12 @@ use Rattle.kinds.specs.Kinds.{number_of}
 use Rattle.netlist.specs.inner.Areas.{word_record, records_in}
 use Rattle.levels.specs.Fold.{cells_in, of_kind, levels_at, bit_outputs}
 use Rattle.refusals.specs.Refusals.{Stage}
-use Rattle.calls.specs.declared.Written.{Written}
 use Rattle.calls.specs.Calls.{decoded, room, level_bytes, stimulus_stages}
 use Rattle.delivery.specs.inner.Delivery.{Writes, Delivers}
+
+-- a byte that is a level
+abbrev pub IsLevel : ℕ → Type 0
+IsLevel b = b ≤ 2
 
 -- whether a slot's record is an output's
 abbrev pub output_at : List ℕ → ℕ → Bool
@@ -33,7 +37,7 @@ abbrev pub bit_bytes : ℕ → List ℕ → List ℕ → List ℕ
 bit_bytes n ws stimulus = map byte_of (bit_outputs (cells_in n ws) stimulus)
 
 -- 12 alone decided answer and reply
-abbrev pub DeliversLevels : ℕ → List ℕ → List ℕ → List ℕ → List ℕ → List ℕ → Written → Type 0
+abbrev pub DeliversLevels : ℕ → List ℕ → List ℕ → List ℕ → List ℕ → List ℕ → Result ℕ Refusal → Type 0
 DeliversLevels n stimulus ws ws' reply reply' r = Delivers (bit_bytes n ws stimulus) ws ws' reply reply' r
 
 -- the stages behind those of checking: 10 to 12
@@ -41,5 +45,5 @@ unfoldable pub level_stages : List ℕ → List ℕ → List ℕ → List Stage
 level_stages t stimulus reply = stimulus_stages (decoded t).cells stimulus ++ (room reply (level_bytes t stimulus) ∷ [])
 
 -- these decided answer and reply
-abbrev pub Levels : List ℕ → List ℕ → List ℕ → List ℕ → List ℕ → List ℕ → Written → Type 0
+abbrev pub Levels : List ℕ → List ℕ → List ℕ → List ℕ → List ℕ → List ℕ → Result ℕ Refusal → Type 0
 Levels t stimulus ws ws' reply reply' r = Writes (level_stages t stimulus reply) (level_bytes t stimulus) ws ws' reply reply' r

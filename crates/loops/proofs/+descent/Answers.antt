@@ -3,7 +3,7 @@
 use borrow.Author.Rules.{rules}
 use native.Mathlib.Omega.{arith}
 use Rattle.loops.proofs.Marks.{opens}
-use Rattle.loops.proofs.Steps.{meet-new, meet-visited, meet-open, meet-passed, meet-finished, edges-inside, edges-looped, edges-ready, edges-falls, edges_more, more-looped, edge-nowhere, edge-coming, edge-met, visit-falls, visit-looped, visit-next, visit-done}
+use Rattle.loops.proofs.Steps.{meet-new, meet-visited, meet-open, meet-passed, meet-finished, edges-inside, edges-looped, edges-ready, edges-falls, edges_more, more-looped, edge-none, edge-coming, edge-met, visit-falls, visit-looped, visit-next, visit-done}
 use Rattle.loops.proofs.+descent.Goals as goal
 
 pub meet-visit-requires : goal.meet-visit-requires
@@ -36,11 +36,11 @@ visit-returns t c = search visit-done
 pub visit_edge-meet-requires : goal.visit_edge-meet-requires
 visit_edge-meet-requires t c = (omega arith, search edge-coming)
 
-pub visit_edge-returns-in-Nowhere : goal.visit_edge-returns-in-Nowhere
-visit_edge-returns-in-Nowhere t c = search edge-nowhere
+pub visit_edge-returns-in-None : goal.visit_edge-returns-in-None
+visit_edge-returns-in-None t c = search edge-none
 
-pub visit_edge-returns-in-To : goal.visit_edge-returns-in-To
-visit_edge-returns-in-To t c = search edge-met
+pub visit_edge-returns-in-Some : goal.visit_edge-returns-in-Some
+visit_edge-returns-in-Some t c = search edge-met
 
 pub visit_edges-record_at-r-requires : goal.visit_edges-record_at-r-requires
 visit_edges-record_at-r-requires t c = search edges-inside

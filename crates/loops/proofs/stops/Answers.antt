@@ -1,10 +1,10 @@
 use Rattle.loops.specs.inner.Walk.{stops_at}
 use Rattle.loops.proofs.stops.Goals as goal
 
-pub returns-in-Any : goal.returns-in-Any
+pub returns-in-None : goal.returns-in-None
 unfolding stops_at
-returns-in-Any c = cc
+returns-in-None c = cc
 
-pub returns-in-At : goal.returns-in-At
+pub returns-in-Some : goal.returns-in-Some
 unfolding stops_at
-returns-in-At c = cc
+returns-in-Some c = cc

@@ -5,11 +5,11 @@ use Rattle.loops.proofs.walk_all.Goals as goal
 pub loop-i-init : goal.loop-i-init
 loop-i-init c = search going-begins
 
-pub meet-next-requires : goal.meet-next-requires
-meet-next-requires c = search going-coming
+pub meet-clock-requires : goal.meet-clock-requires
+meet-clock-requires c = search going-coming
 
-pub returns-then-next-eq0 : goal.returns-then-next-eq0
-returns-then-next-eq0 c = search going-stuck
+pub returns-then-clock-eq0 : goal.returns-then-clock-eq0
+returns-then-clock-eq0 c = search going-stuck
 
 pub loop-i-preserved : goal.loop-i-preserved
 loop-i-preserved c = search going_more

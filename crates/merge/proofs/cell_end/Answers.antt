@@ -1,25 +1,11 @@
 -- `merge::cell_end` meets its contract. Assumes nothing.
-use native.Mathlib.Omega.{arith}
-use Rattle.merge.proofs.Cells.{ending-none, ending-stop, ending-more, ending-all}
+use borrow.Author.Rules.{rules}
+use Rattle.std.proofs.iter.runs.Sources.{ranges}
+use Rattle.merge.proofs.Cells.{cell-ends}
 use Rattle.merge.proofs.cell_end.Goals as goal
 
-pub overflow_add-e : goal.overflow_add-e
-overflow_add-e c = omega arith
-
-pub loop-e-init : goal.loop-e-init
-loop-e-init c = search ending-none
-
-pub returns-then-record_in-eq0 : goal.returns-then-record_in-eq0
-returns-then-record_in-eq0 c = record { value = search ending-stop; upper_bound = omega arith }
-
-pub overflow_add-e-in-loop-e : goal.overflow_add-e-in-loop-e
-overflow_add-e-in-loop-e c = omega arith
-
-pub loop-e-smaller : goal.loop-e-smaller
-loop-e-smaller c = omega arith
-
-pub loop-e-preserved : goal.loop-e-preserved
-loop-e-preserved c = search ending-more
-
-pub returns : goal.returns
-returns c = record { value = search ending-all; upper_bound = omega arith }
+-- `get_or` at j, of which nothing is used, has the search look at the item for j
+pub returns-clause-value : goal.returns-clause-value
+returns-clause-value c =
+    cell-ends c.args.n c.args.work.now c.args.s.0 c.unwrap_or.result (search (rules, ranges)) (search (rules, ranges)) (λ j x q a b. search (rules, ranges))
+    (λ a. search (rules, ranges))

@@ -7,8 +7,8 @@ use Rattle.merge.proofs.find_or_insert.Goals as goal
 pub find-requires : goal.find-requires
 find-requires c = record { in_bounds = search rules; k_bound = omega arith; entered = search rules; mixed = search rules; cell = search key-is-cell }
 
-pub returns-in-At : goal.returns-in-At
-returns-in-At c = search numbers-found
+pub returns-in-Some : goal.returns-in-Some
+returns-in-Some c = search numbers-found
 
-pub returns-in-Nothing : goal.returns-in-Nothing
-returns-in-Nothing c = search numbers-new
+pub returns-in-None : goal.returns-in-None
+returns-in-None c = search numbers-new

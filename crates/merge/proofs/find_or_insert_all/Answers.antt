@@ -10,12 +10,6 @@ loop-i-init c = search numbering-none
 pub find_or_insert-count-requires : goal.find_or_insert-count-requires
 find_or_insert-count-requires c = record { ready = search rules; k_bound = omega arith; s_lt_n = omega arith; keyed = search numbering-keyed }
 
-pub overflow_add-i : goal.overflow_add-i
-overflow_add-i c = omega arith
-
-pub loop-i-smaller : goal.loop-i-smaller
-loop-i-smaller c = omega arith
-
 pub loop-i-preserved : goal.loop-i-preserved
 loop-i-preserved c = search numbering-more
 

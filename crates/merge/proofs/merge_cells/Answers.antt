@@ -1,5 +1,4 @@
 -- `merge::merge_cells` meets its contract. Assumes nothing.
-use native.Mathlib.Omega.{arith}
 use Rattle.merge.proofs.Merging.{turning-none, turning-inside, turning-room, turning-more, turning-all}
 use borrow.Author.Rules.{rules}
 use Rattle.merge.proofs.merge_cells.Goals as goal
@@ -7,17 +6,8 @@ use Rattle.merge.proofs.merge_cells.Goals as goal
 pub loop-j-init : goal.loop-j-init
 loop-j-init c = search turning-none
 
-pub overflow_add-j : goal.overflow_add-j
-overflow_add-j c = omega arith
-
 pub merge_next-k-requires : goal.merge_next-k-requires
 merge_next-k-requires c = record { ready = search rules; s_lt_n = search turning-inside; s_bound = search turning-room }
-
-pub overflow_add-j-in-loop-j : goal.overflow_add-j-in-loop-j
-overflow_add-j-in-loop-j c = omega arith
-
-pub loop-j-smaller : goal.loop-j-smaller
-loop-j-smaller c = omega arith
 
 pub loop-j-preserved : goal.loop-j-preserved
 loop-j-preserved c = search turning-more

@@ -9,12 +9,6 @@ loop-i-init c = search keying-none
 pub put_key-requires : goal.put_key-requires
 put_key-requires c = omega arith
 
-pub overflow_add-i : goal.overflow_add-i
-overflow_add-i c = omega arith
-
-pub loop-i-smaller : goal.loop-i-smaller
-loop-i-smaller c = omega arith
-
 pub loop-i-preserved : goal.loop-i-preserved
 loop-i-preserved c = search keying-more
 

@@ -1,18 +1,12 @@
-use Rattle.std.specs.Prelude.{◌≡◌, length}
-use Rattle.calls.specs.Work.{cleared}
-use Rattle.calls.specs.Calls.{merge_answer, merge_reply}
-use Rattle.delivery.proofs.Shell.{handed, taken}
-use Rattle.merge_call.proofs.Merging.{merge-called}
+use borrow.Author.Rules.{rules}
+use Rattle.std.specs.Prelude.{[], ◌∷◌}
+use Rattle.calls.specs.Calls.{room, merge_bytes, merge_verdict, merge_answer, merge_reply}
+use Rattle.merge_call.specs.inner.Merge.{merge_told}
 use Rattle.merge_call.proofs.merge.Goals as goal
-use Rattle.merge_call.proofs.merge.Goals.{in-Refused, in-Pass}
 
 pub returns : goal.returns
+unfolding merge_verdict merge_answer merge_reply
 returns c =
-    let all :
-    (c.match-begin.m ≡ merge_answer (length c.args.work.now) c.args.ticket.now c.args.reply.now)
-    × ((c.match-begin.reply ≡ merge_reply (length c.args.work.now) c.args.ticket.now c.args.reply.now)
-    × (c.end.new.work ≡ cleared c.args.work.now)) =
-    merge-called c.begin.ensures
-    (elim c.match-begin.branch [ in-Refused w ↦ search handed | in-Pass w ↦ search taken ])
-    c.end.ensures in
-    record { value = all.0; reply_after = all.1.0; work_after = all.1.1 }
+    let bytes = merge_bytes c.args.ticket.now in
+    let all = c.with_work.ensures (merge_told c.args.ticket.now) (room c.args.reply.now bytes ∷ []) bytes (λ ws ws' reply' r p g. search rules) in
+    record { value = all.said; reply_after = all.left; work_after = all.wiped }

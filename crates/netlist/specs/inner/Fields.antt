@@ -3,7 +3,7 @@ use Rattle.std.specs.Prelude.{cond, not, ℕ, ◌+◌, ◌*◌, ◌/◌, ◌%◌
 use Rattle.value.specs.declared.Net.{Net}
 use Rattle.value.specs.Value.{net_at}
 use Rattle.kinds.specs.declared.Sort.TheVariants as sort
-use Rattle.kinds.specs.Kinds.{kind_of, number_of, is_used, is_operand_use}
+use Rattle.kinds.specs.Kinds.{is_known, kind_of, number_of, is_used, is_operand_use}
 use Rattle.cell.specs.declared.Record.{Record}
 use Rattle.cell.specs.Operands.{field_of, is_operand}
 use Rattle.cell.specs.Records.{record_of, cell_of, cell_record}
@@ -13,8 +13,8 @@ use Rattle.netlist.specs.Shape.{visit_mut}
 unfoldable pub plain_fields : Record → Record
 plain_fields r =
     let k = kind_of r.kind in
-    record_of (cond k.known r.kind (number_of sort.Buf)) (cond (not (eqb k.flags 0)) (r.flags % 2 + r.flags / 2 % 2 * 2) 0) r.bit
-    (cond k.known r.a 0) (cond (is_used k.b) r.b 0) (cond (is_operand_use k.c) r.c 0)
+    record_of (cond (is_known r.kind) r.kind (number_of sort.Buf)) (cond (not (eqb k.flags 0)) (r.flags % 2 + r.flags / 2 % 2 * 2) 0) r.bit
+    (cond (is_known r.kind) r.a 0) (cond (is_used k.b) r.b 0) (cond (is_operand_use k.c) r.c 0)
 
 -- the net in a field; a constant where there is none
 unfoldable pub operand_at : Record → ℕ → Net

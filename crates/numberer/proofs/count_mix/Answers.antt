@@ -1,22 +1,16 @@
 -- `numberer::count_mix` meets its contract. Assumes nothing.
-use Rattle.numberer.proofs.Mixing.{counting-none, counting-inside, counting-fits, counting_more, counting-all}
-use native.Mathlib.Omega.{arith}
+use Rattle.numberer.proofs.Mixing.{counting-none, counting-fits, counting_more, counting-all}
+use borrow.Author.Rules.{rules}
 use Rattle.numberer.proofs.count_mix.Goals as goal
 
-pub loop-i-init : goal.loop-i-init
-loop-i-init c = search counting-none
-
-pub bounds-work-i : goal.bounds-work-i
-bounds-work-i c = search counting-inside
+pub loop-m-init : goal.loop-m-init
+loop-m-init c = counting-none _ _
 
 pub overflow_add-count : goal.overflow_add-count
-overflow_add-count c = search counting-fits
+overflow_add-count c = let h = counting-fits _ _ _ _ _ c.loop-m.invariant c.requires.in_bounds c.requires.k_bound c.loop-m-test.true _ _ c.pick-count.ensures in search rules
 
-pub loop-i-smaller : goal.loop-i-smaller
-loop-i-smaller c = omega arith
-
-pub loop-i-preserved : goal.loop-i-preserved
-loop-i-preserved c = search counting_more
+pub loop-m-preserved : goal.loop-m-preserved
+loop-m-preserved c = counting_more _ _ _ _ c.loop-m.invariant _ c.pick-count.ensures
 
 pub returns : goal.returns
-returns c = search counting-all
+returns c = counting-all _ _ _ _ _ c.loop-m.invariant c.requires.in_bounds c.requires.k_bound c.loop-m-test.false

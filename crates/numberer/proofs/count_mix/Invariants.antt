@@ -1,10 +1,6 @@
 -- `numberer::count_mix` meets its contract. Assumes nothing.
-use Rattle.numberer.proofs.Mixing.{rounded, Counting}
-use Prim.Native.Nat.{◌-◌}
+use Rattle.numberer.proofs.Mixing.{looked_at, Counting}
 use Rattle.numberer.proofs.count_mix.Given as goal
 
-abbrev pub invariant-loop-i : goal.invariant-loop-i
-invariant-loop-i l = Counting l.x l.work l.i l.count
-
-abbrev pub decreases-loop-i : goal.decreases-loop-i
-decreases-loop-i l = rounded l.k - l.i
+abbrev pub invariant-loop-m : goal.invariant-loop-m
+invariant-loop-m l = Counting l.x (looked_at l.k l.work) l.m-index l.count

@@ -20,12 +20,6 @@ from_cell_index-requires c = omega arith
 pub returns-then-same_at : goal.returns-then-same_at
 returns-then-same_at c = search seeking-found
 
-pub overflow_add-i-in-loop-i : goal.overflow_add-i-in-loop-i
-overflow_add-i-in-loop-i c = omega arith
-
-pub loop-i-smaller : goal.loop-i-smaller
-loop-i-smaller c = omega arith
-
 pub loop-i-preserved : goal.loop-i-preserved
 loop-i-preserved c = search seeking-more
 

@@ -1,10 +1,6 @@
 -- `numberer::find_first` meets its contract. Assumes nothing.
 use Rattle.numberer.proofs.Seeking.{Seeking}
-use Prim.Native.Nat.{◌-◌}
 use Rattle.numberer.proofs.find_first.Given as goal
 
 abbrev pub invariant-loop-i : goal.invariant-loop-i
 invariant-loop-i l = Seeking l.k l.work l.key l.i
-
-abbrev pub decreases-loop-i : goal.decreases-loop-i
-decreases-loop-i l = l.k - l.i

@@ -1,12 +1,7 @@
 -- `order::clear_marks` meets its contract. Assumes nothing.
-use Rattle.order.proofs.Words.{clearing-none, clearing-more, clearing-all}
+use native.Mathlib.Omega.{arith}
+use Rattle.order.proofs.Words.{filled-clears}
 use Rattle.order.proofs.clear_marks.Goals as goal
 
-pub loop-i-init : goal.loop-i-init
-loop-i-init c = search clearing-none
-
-pub loop-i-preserved : goal.loop-i-preserved
-loop-i-preserved c = search clearing-more
-
 pub returns : goal.returns
-returns c = search clearing-all
+returns c = filled-clears _ _ _ _ (omega arith) (omega arith) (omega arith) (c.fill.ensures.after (λ y e. e))

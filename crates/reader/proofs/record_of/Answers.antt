@@ -1,7 +1,6 @@
--- The slot is below the number of records.
-use Rattle.std.proofs.Common.{arith}
-use Rattle.reader.proofs.Reading.{has-below}
+use mathlib.Core.Path.{◌∙◌}
+use Rattle.reader.proofs.Reading.{record_behind}
 use Rattle.reader.proofs.record_of.Goals as goal
 
-pub record_at-requires : goal.record_at-requires
-record_at-requires c = omega (arith, has-below)
+pub returns : goal.returns
+returns c = c.record_at.ensures ∙ record_behind c.args.bytes.now c.args.at

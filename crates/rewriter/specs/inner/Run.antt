@@ -1,5 +1,5 @@
 -- The run over the items of the bit order in the words of the work slice. Assumes nothing: these are definitions.
-use Rattle.std.specs.Prelude.{◌≡◌, true, false, List, [], ℕ, ◌+◌, ◌≤◌, ◌<◌, length, get_or}
+use Rattle.std.specs.Prelude.{◌≡◌, true, false, List, [], ℕ, ◌+◌, ◌≤◌, ◌<◌, length, get_or, Result, Ok, Err}
 use Rattle.cell.specs.declared.Cell.{Cell}
 use Rattle.netlist.specs.inner.Areas.{word_record, words_in, order_at, replaced_at, Within, keys_from, visited_at}
 use Rattle.netlist.specs.Shape.{visit}
@@ -15,10 +15,7 @@ use Rattle.order_laws.specs.Ordered.{OnceAfter, FedAfter}
 use Rattle.order_laws.specs.Members.{Wired}
 use Rattle.rewrite_laws.specs.State.{State}
 use Rattle.rewriter_state.specs.declared.Extent.{Extent}
-use Rattle.rewriter.specs.declared.Step.{Step}
-use Rattle.rewriter.specs.declared.Step.TheVariants as step
-use Rattle.rewriter.specs.declared.Rewritten.{Rewritten}
-use Rattle.rewriter.specs.declared.Rewritten.TheVariants as rewritten
+use Rattle.rewriter.specs.declared.Full.{Full}
 use Rattle.rewriter_state.specs.inner.Words.{stamps_at, rewriter_in, Held, ReadySlot}
 use Rattle.rewriter_cycle.specs.inner.Cycle.{Running, Ready}
 
@@ -38,9 +35,13 @@ pub record Went (k : ℕ) (x x' : Extent) (ws ws' : List ℕ) (y : Run) : Type 0
   pub left : Between x x' ws ws'
   pub clock : x'.clock + x.slots ≤ x.clock + x'.slots + k
 
+-- what an item of the bit order leaves; or no slot is left
+abbrev pub Step : Type 0
+Step = Result Extent Full
+
 abbrev pub Goes : ℕ → Extent → List ℕ → List ℕ → Run → Step → Type 0
-Goes k x ws ws' y (step.On x') = Went k x x' ws ws' y
-Goes k x ws ws' y step.Full = (1024 < slots_of y) × Within 0 keys_from ws ws'
+Goes k x ws ws' y (Ok x') = Went k x x' ws ws' y
+Goes k x ws ws' y (Err e) = (1024 < slots_of y) × Within 0 keys_from ws ws'
 
 -- what is asked: of a slot with its mapped cell; of an item, which comes after what it depends on; and of the first k items of the order,
 -- before which nothing was done, with room for a stamp each
@@ -106,6 +107,6 @@ pub record RewritesTo (n m : ℕ) (ws ws' : List ℕ) : Type 0 where
   pub result : compact (netlist_in m ws') ≡ rewrite find_new_cell (netlist_in n ws)
   pub frame : Within 0 keys_from ws ws'
 
-abbrev pub Rewrites : ℕ → List ℕ → List ℕ → Rewritten → Type 0
-Rewrites n ws ws' (rewritten.To m) = RewritesTo n m ws ws'
-Rewrites n ws ws' rewritten.Full = (1024 < slots_of (run find_new_cell (netlist_in n ws).cells)) × Within 0 keys_from ws ws'
+abbrev pub Rewrites : ℕ → List ℕ → List ℕ → Result ℕ Full → Type 0
+Rewrites n ws ws' (Ok m) = RewritesTo n m ws ws'
+Rewrites n ws ws' (Err e) = (1024 < slots_of (run find_new_cell (netlist_in n ws).cells)) × Within 0 keys_from ws ws'

@@ -2,6 +2,7 @@
 -- `SimpleAigOpt`, 1 for `simple_aig_opt`, 2 for `process_cell`, 3 for `add_cell`. Assumes nothing.
 use native.Mathlib.Omega.{arith}
 use borrow.Author.Rules.{rules}
+use Rattle.normalize.proofs.First.{some-of}
 use Rattle.rewriter_cycle.proofs.Arms.{aig-no-add, aig-no-both, xor-no-add, xor-no-both, normalize-no-add, normalize-no-not, normalize-no-both}
 use Rattle.rewriter_cycle.proofs.Passes.{none-held, cell-held, add_none, add-cell, add-value, add-full, opted-none, opted-value, opted-form, and-ready, and-falls, and-value, and-full, or-ready, or-falls, or-not-ready, or-not-falls, or-performs, or-full, inverse-ready, inverse-falls, inverse-performs, arm-ready, arm-falls, arm-performs, not-performs, input-performs, output-performs, buf-performs, mux-performs, forms-begin, forms-ready, forms-fall, normal-value, normal-less, normal-form, forms-held, forms-asked, forms-value, forms-full, forms-less, forms-on}
 use Rattle.rewriter_cycle.proofs.+passes.Goals as goal
@@ -27,17 +28,17 @@ add_cell-returns-in-Value t c = search add-value
 pub add_cell-returns-in-Full : goal.add_cell-returns-in-Full
 add_cell-returns-in-Full t c = search add-full
 
-pub process_cell-loop-n-init : goal.process_cell-loop-n-init
-process_cell-loop-n-init t c = search forms-begin
+pub process_cell-loop-change-init : goal.process_cell-loop-change-init
+process_cell-loop-change-init t c = search forms-begin
 
 pub process_cell-returns-in-Value : goal.process_cell-returns-in-Value
-process_cell-returns-in-Value t c = search normal-value
+process_cell-returns-in-Value t c = search (normal-value, some-of)
 
-pub process_cell-loop-n-smaller-in-Form : goal.process_cell-loop-n-smaller-in-Form
-process_cell-loop-n-smaller-in-Form t c = search normal-less
+pub process_cell-loop-change-smaller-in-Form : goal.process_cell-loop-change-smaller-in-Form
+process_cell-loop-change-smaller-in-Form t c = search (normal-less, some-of)
 
-pub process_cell-loop-n-preserved-in-Form : goal.process_cell-loop-n-preserved-in-Form
-process_cell-loop-n-preserved-in-Form t c = search normal-form
+pub process_cell-loop-change-preserved-in-Form : goal.process_cell-loop-change-preserved-in-Form
+process_cell-loop-change-preserved-in-Form t c = search (normal-form, some-of)
 
 pub process_cell-simple_aig_opt-requires : goal.process_cell-simple_aig_opt-requires
 process_cell-simple_aig_opt-requires t c = (search forms-fall, search forms-ready)
@@ -48,11 +49,11 @@ process_cell-asked-requires t c = search forms-held
 pub process_cell-returns-in-None-simple_aig_opt : goal.process_cell-returns-in-None-simple_aig_opt
 process_cell-returns-in-None-simple_aig_opt t c = search forms-asked
 
-pub process_cell-loop-n-smaller : goal.process_cell-loop-n-smaller
-process_cell-loop-n-smaller t c = search forms-less
+pub process_cell-loop-change-smaller : goal.process_cell-loop-change-smaller
+process_cell-loop-change-smaller t c = search forms-less
 
-pub process_cell-loop-n-preserved : goal.process_cell-loop-n-preserved
-process_cell-loop-n-preserved t c = search forms-on
+pub process_cell-loop-change-preserved : goal.process_cell-loop-change-preserved
+process_cell-loop-change-preserved t c = search forms-on
 
 pub process_cell-returns-in-Value-simple_aig_opt : goal.process_cell-returns-in-Value-simple_aig_opt
 process_cell-returns-in-Value-simple_aig_opt t c = search forms-value
@@ -70,19 +71,19 @@ pub process_cell-returns-in-AddNotOf : goal.process_cell-returns-in-AddNotOf
 process_cell-returns-in-AddNotOf t c = absurd (search normalize-no-both)
 
 pub rewrite_aig-add_cell-requires : goal.rewrite_aig-add_cell-requires
-rewrite_aig-add_cell-requires t c = (search inverse-falls, search inverse-ready)
+rewrite_aig-add_cell-requires t c = (search (inverse-falls, some-of), search (inverse-ready, some-of))
 
 pub rewrite_aig-returns-in-None : goal.rewrite_aig-returns-in-None
 rewrite_aig-returns-in-None t c = search opted-none
 
 pub rewrite_aig-returns-in-Value : goal.rewrite_aig-returns-in-Value
-rewrite_aig-returns-in-Value t c = search opted-value
+rewrite_aig-returns-in-Value t c = search (opted-value, some-of)
 
 pub rewrite_aig-returns-in-Form : goal.rewrite_aig-returns-in-Form
-rewrite_aig-returns-in-Form t c = search opted-form
+rewrite_aig-returns-in-Form t c = search (opted-form, some-of)
 
 pub rewrite_aig-returns-in-NotOf : goal.rewrite_aig-returns-in-NotOf
-rewrite_aig-returns-in-NotOf t c = search inverse-performs
+rewrite_aig-returns-in-NotOf t c = search (inverse-performs, some-of)
 
 pub rewrite_aig-returns-in-Add : goal.rewrite_aig-returns-in-Add
 rewrite_aig-returns-in-Add t c = absurd (search aig-no-add)
@@ -112,19 +113,19 @@ pub rewrite_or-returns-in-Full : goal.rewrite_or-returns-in-Full
 rewrite_or-returns-in-Full t c = search or-full
 
 pub rewrite_xor-add_cell-requires : goal.rewrite_xor-add_cell-requires
-rewrite_xor-add_cell-requires t c = (search inverse-falls, search inverse-ready)
+rewrite_xor-add_cell-requires t c = (search (inverse-falls, some-of), search (inverse-ready, some-of))
 
 pub rewrite_xor-returns-in-None : goal.rewrite_xor-returns-in-None
 rewrite_xor-returns-in-None t c = search opted-none
 
 pub rewrite_xor-returns-in-Value : goal.rewrite_xor-returns-in-Value
-rewrite_xor-returns-in-Value t c = search opted-value
+rewrite_xor-returns-in-Value t c = search (opted-value, some-of)
 
 pub rewrite_xor-returns-in-Form : goal.rewrite_xor-returns-in-Form
-rewrite_xor-returns-in-Form t c = search opted-form
+rewrite_xor-returns-in-Form t c = search (opted-form, some-of)
 
 pub rewrite_xor-returns-in-NotOf : goal.rewrite_xor-returns-in-NotOf
-rewrite_xor-returns-in-NotOf t c = search inverse-performs
+rewrite_xor-returns-in-NotOf t c = search (inverse-performs, some-of)
 
 pub rewrite_xor-returns-in-Add : goal.rewrite_xor-returns-in-Add
 rewrite_xor-returns-in-Add t c = absurd (search xor-no-add)

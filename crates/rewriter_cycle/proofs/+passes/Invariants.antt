@@ -28,8 +28,8 @@ decreases-rewrite_xor l = 8 * weight (rewriter_in l.x l.work.now).stamps (Xor l.
 abbrev pub decreases-simple_aig_opt : goal.decreases-simple_aig_opt
 decreases-simple_aig_opt l = 8 * weight (rewriter_in l.x l.work.now).stamps l.c + 1
 
-abbrev pub invariant-process_cell-loop-n : goal.invariant-process_cell-loop-n
-invariant-process_cell-loop-n l = Forms l.initial.y l.initial.work l.initial.d l.y l.work l.d l.replaced
+abbrev pub invariant-process_cell-loop-change : goal.invariant-process_cell-loop-change
+invariant-process_cell-loop-change l = Forms l.initial.y l.initial.work l.initial.d l.y l.work l.d l.replaced
 
-abbrev pub decreases-process_cell-loop-n : goal.decreases-process_cell-loop-n
-decreases-process_cell-loop-n l = weight (rewriter_in l.y l.work).stamps l.d
+abbrev pub decreases-process_cell-loop-change : goal.decreases-process_cell-loop-change
+decreases-process_cell-loop-change l = weight (rewriter_in l.y l.work).stamps l.d

@@ -2,8 +2,8 @@
 use Rattle.rewriter_cycle.proofs.Passes.{asked-found, asked-new}
 use Rattle.rewriter_cycle.proofs.asked.Goals as goal
 
-pub returns-in-At : goal.returns-in-At
-returns-in-At c = search asked-found
+pub returns-in-Some : goal.returns-in-Some
+returns-in-Some c = search asked-found
 
-pub returns-in-Nothing : goal.returns-in-Nothing
-returns-in-Nothing c = search asked-new
+pub returns-in-None : goal.returns-in-None
+returns-in-None c = search asked-new

@@ -1,13 +1,11 @@
 -- The cycle of rules and adder in the words of the work slice. Assumes nothing: these are definitions.
-use Rattle.std.specs.Prelude.{◌≡◌, Bool, true, false, cond, List, ℕ, ◌<◌, length}
+use Rattle.std.specs.Prelude.{◌≡◌, Bool, true, false, cond, List, ℕ, ◌<◌, length, None, Some, Option}
 use Rattle.value.specs.declared.Net.{Net}
 use Rattle.cell.specs.declared.Cell.{Cell}
 use Rattle.cell.specs.declared.Cell.TheVariants.{Not}
 use Rattle.netlist.specs.inner.Areas.{Within, keys_from}
-use Rattle.normalize.specs.declared.Outcome.{Outcome}
-use Rattle.normalize.specs.declared.Outcome.TheVariants.{None, Value, Form, Add, NotOf, AddNotOf}
-use Rattle.numberer.specs.declared.Found.{Found}
-use Rattle.numberer.specs.declared.Found.TheVariants as found
+use Rattle.normalize.specs.Outcomes.{Outcome}
+use Rattle.normalize.specs.declared.Change.TheVariants.{Value, Form, Add, NotOf, AddNotOf}
 use Rattle.design.specs.Queue.{find_new_cell}
 use Rattle.numberer.specs.Numberer.{seek}
 use Rattle.aig.specs.Aig.{simple_aig_opt}
@@ -35,24 +33,24 @@ as_not_of added.Full = processed.Full
 -- whether an outcome adds a cell, and what it gives if it adds none
 abbrev pub adds : Outcome → Bool
 adds None = false
-adds (Value n) = false
-adds (Form c) = false
-adds (Add c) = true
-adds (NotOf c) = true
-adds (AddNotOf c) = true
+adds (Some (Value n)) = false
+adds (Some (Form c)) = false
+adds (Some (Add c)) = true
+adds (Some (NotOf c)) = true
+adds (Some (AddNotOf c)) = true
 
 abbrev pub unadded_of : Extent → Outcome → Processed
 unadded_of x None = processed.None x
-unadded_of x (Value n) = processed.Value n x
-unadded_of x (Form c) = processed.Cell c x
-unadded_of x (Add c) = processed.None x
-unadded_of x (NotOf c) = processed.None x
-unadded_of x (AddNotOf c) = processed.None x
+unadded_of x (Some (Value n)) = processed.Value n x
+unadded_of x (Some (Form c)) = processed.Cell c x
+unadded_of x (Some (Add c)) = processed.None x
+unadded_of x (Some (NotOf c)) = processed.None x
+unadded_of x (Some (AddNotOf c)) = processed.None x
 
 -- the cache is asked
-abbrev pub found_of : Extent → Found → Processed
-found_of x (found.At n) = processed.Value n x
-found_of x found.Nothing = processed.None x
+abbrev pub found_of : Extent → Option Net → Processed
+found_of x (Some n) = processed.Value n x
+found_of x None = processed.None x
 
 abbrev pub asked_of : Extent → List ℕ → Cell → Processed
 asked_of x ws c = found_of x (seek (rewriter_in x ws).cache c)

@@ -12,12 +12,6 @@ from_cell_index-own-requires c = omega arith
 pub overflow_add-s : goal.overflow_add-s
 overflow_add-s c = omega arith
 
-pub overflow_add-s-in-loop-s : goal.overflow_add-s-in-loop-s
-overflow_add-s-in-loop-s c = omega arith
-
-pub loop-s-smaller : goal.loop-s-smaller
-loop-s-smaller c = omega arith
-
 pub loop-s-preserved : goal.loop-s-preserved
 loop-s-preserved c = search standing-more
 

@@ -7,4 +7,4 @@ use Rattle.netlist.proofs.fields.net_b.Goals as goal
 
 pub returns : goal.returns
 unfolding operand_at is_operand use_of field_of
-returns c = ap net_at (c.pick32.ensures ∙ rw c.net_in_b.ensures)
+returns c = ap net_at (c.pick.ensures ∙ rw c.net_in_b.ensures)

@@ -6,10 +6,10 @@ pub run_items-requires : goal.run_items-requires
 run_items-requires c = search run-ready
 
 pub apply_all-requires : goal.apply_all-requires
-apply_all-requires c = search run-running
+apply_all-requires c = let h = c.in_ok-x.ensures in search run-running
 
-pub returns-in-On : goal.returns-in-On
-returns-in-On c = search run-rewritten
+pub returns : goal.returns
+returns c = let h = c.in_ok-x.ensures in search run-rewritten
 
-pub returns-in-Full : goal.returns-in-Full
-returns-in-Full c = search run-full
+pub returns-in_err-x : goal.returns-in_err-x
+returns-in_err-x c = let h = c.in_err-x.ensures in let f = c.from_residual.ensures.0 in search run-full

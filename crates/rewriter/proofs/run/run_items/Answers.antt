@@ -12,17 +12,11 @@ overflow_add-j c = omega arith
 pub run_item-requires : goal.run_item-requires
 run_item-requires c = search rolling-ready
 
-pub returns-in-Full : goal.returns-in-Full
-returns-in-Full c = search rolling-full
-
-pub overflow_add-j-in-loop-j : goal.overflow_add-j-in-loop-j
-overflow_add-j-in-loop-j c = omega arith
-
-pub loop-j-smaller : goal.loop-j-smaller
-loop-j-smaller c = omega arith
+pub returns-in_err-x : goal.returns-in_err-x
+returns-in_err-x c = let h = c.in_err-x.ensures in let f = c.from_residual.ensures.0 in search rolling-full
 
 pub loop-j-preserved : goal.loop-j-preserved
-loop-j-preserved c = search rolling-more
+loop-j-preserved c = let h = c.in_ok-x.ensures in search rolling-more
 
 pub returns : goal.returns
 returns c = search rolling-end

@@ -1,8 +1,0 @@
-use Rattle.normalize.proofs.First.{first, second}
-use Rattle.aig_arms.proofs.xor.xor_with_either.Goals as goal
-
-pub returns-then-applies : goal.returns-then-applies
-returns-then-applies c = search first
-
-pub returns : goal.returns
-returns c = search second

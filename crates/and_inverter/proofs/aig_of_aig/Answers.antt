@@ -1,8 +1,0 @@
-use Rattle.normalize.proofs.First.{positive, negative}
-use Rattle.and_inverter.proofs.aig_of_aig.Goals as goal
-
-pub returns-then-is_positive : goal.returns-then-is_positive
-returns-then-is_positive c = search positive
-
-pub returns : goal.returns
-returns c = search negative
