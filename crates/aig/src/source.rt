@@ -1,4 +1,4 @@
-// The operands of a looked-up cell.
+// The operands of a looked-up cell. A function for each kind, as each gives them in types of their own: one for all could only give the cell.
 ghost use Rattle.std.specs.Prelude.{◌≡◌};
 ghost use Rattle.aig.specs.inner.Sources.{not_in, aig_in, xor_in};
 

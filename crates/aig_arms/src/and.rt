@@ -38,13 +38,13 @@ fn and_with_and(src_b: Option<Cell>, a: ControlNet, b: ControlNet, aa: ControlNe
 }
 
 // (aa & ab) & b
-#[tactic(auto, using(normalize::proofs::First::tests), unfolding(normalize::specs::Outcomes::first_change, normalize::specs::Outcomes::from_control, aig::specs::Aig::and_with))]
+#[tactic(auto, using(normalize::proofs::First::tests), unfolding(normalize::specs::Outcomes::first_change, aig::specs::Aig::and_with))]
 fn and_with(src_b: Option<Cell>, a: ControlNet, b: ControlNet, aa: ControlNet) -> Option<Change>
     ensures { result ≡ and_with src_b a b aa }
 {
     // idempotence, and-and-same: (aa & ab) & aa -> aa & ab
     if aa == b {
-        return normalize::from_control(a);
+        return Some(Change::from(a));
     }
     // contradiction, and-and-complement: (aa & ab) & ~aa -> 0
     if opposite(aa, b) {
@@ -63,8 +63,5 @@ pub fn and_with_either(
 ) -> Option<Change>
     ensures { result ≡ either_way (λ aa ab. and_with src_b a b aa) a1 a2 }
 {
-    match and_with(src_b, a, b, a1) {
-        Some(change) => Some(change),
-        None => and_with(src_b, a, b, a2),
-    }
+    and_with(src_b, a, b, a1).or_else(|| and_with(src_b, a, b, a2))
 }

@@ -1,17 +1,17 @@
 // a is the inverse of an and: ~(aa & ab) & b.
-ghost use Rattle.std.specs.Prelude.{◌≡◌};
+ghost use Rattle.std.specs.Prelude.{◌≡◌, Some};
 ghost use Rattle.value.specs.Value.{is_positive, is_negative};
 ghost use Rattle.normalize.specs.Outcomes.{◌or_else◌, given, either_way};
 ghost use Rattle.aig.specs.Aig.{if_aig, nand_and, xor_of, nand_nand, nand_with};
 
-use crate::{differ, opposite};
+use crate::opposite;
 use aig::source;
 use cell::Cell;
 use normalize::Change;
 use value::ControlNet;
 
 // ~(aa & ab) & (ba & bb)
-#[tactic(auto, using(normalize::proofs::First::tests), unfolding(normalize::specs::Outcomes::first_change, normalize::specs::Outcomes::from_control, aig::specs::Aig::nand_and))]
+#[tactic(auto, using(normalize::proofs::First::tests), unfolding(normalize::specs::Outcomes::first_change, aig::specs::Aig::nand_and))]
 fn nand_and(b: ControlNet, aa: ControlNet, ab: ControlNet, ba: ControlNet) -> Option<Change>
     ensures { result ≡ nand_and b aa ab ba }
 {
@@ -21,26 +21,26 @@ fn nand_and(b: ControlNet, aa: ControlNet, ab: ControlNet, ba: ControlNet) -> Op
     }
     // subsumption, nand-and-subsume: ~(aa & ab) & (~aa & bb) -> ~aa & bb
     if opposite(aa, ba) {
-        return normalize::from_control(b);
+        return Some(Change::from(b));
     }
     None
 }
 
 // aa ^ ab of the nets, inverted if exactly one of them is negative
 #[tactic(auto, unfolding(aig::specs::Aig::xor_of))]
-fn xor_of(aa: ControlNet, ab: ControlNet) -> Option<Change>
-    ensures { result ≡ xor_of aa ab }
+fn xor_of(aa: ControlNet, ab: ControlNet) -> Change
+    ensures { Some result ≡ xor_of aa ab }
 {
     let xor = Cell::Xor(aa.net(), ab.net());
-    Some(if differ(aa.is_negative(), ab.is_negative()) {
+    if aa.is_negative() != ab.is_negative() {
         Change::NotOf(xor)
     } else {
         Change::Form(xor)
-    })
+    }
 }
 
 // ~(aa & ab) & ~(ba & bb)
-#[tactic(auto, using(normalize::proofs::First::tests), unfolding(normalize::specs::Outcomes::first_change, normalize::specs::Outcomes::from_control, aig::specs::Aig::nand_nand))]
+#[tactic(auto, using(normalize::proofs::First::tests), unfolding(normalize::specs::Outcomes::first_change, aig::specs::Aig::nand_nand))]
 fn nand_nand(aa: ControlNet, ab: ControlNet, ba: ControlNet, bb: ControlNet) -> Option<Change>
     ensures { result ≡ nand_nand aa ab ba bb }
 {
@@ -49,11 +49,11 @@ fn nand_nand(aa: ControlNet, ab: ControlNet, ba: ControlNet, bb: ControlNet) -> 
     }
     // resolution, nand-resolve: ~(aa & ab) & ~(~aa & ab) -> ~ab
     if ab == bb {
-        return normalize::from_control(!ab);
+        return Some(Change::from(!ab));
     }
     // recognition of xor, xor-found and xor-found-inverted: ~(aa & ab) & ~(~aa & ~ab) -> aa ^ ab
     if opposite(ab, bb) {
-        return xor_of(aa, ab);
+        return Some(xor_of(aa, ab));
     }
     None
 }
@@ -75,7 +75,7 @@ fn nand_with_aig(
 }
 
 // ~(aa & ab) & b
-#[tactic(auto, using(normalize::proofs::First::tests), unfolding(normalize::specs::Outcomes::first_change, normalize::specs::Outcomes::from_control, aig::specs::Aig::nand_with))]
+#[tactic(auto, using(normalize::proofs::First::tests), unfolding(normalize::specs::Outcomes::first_change, aig::specs::Aig::nand_with))]
 fn nand_with(src_b: Option<Cell>, b: ControlNet, aa: ControlNet, ab: ControlNet) -> Option<Change>
     ensures { result ≡ nand_with src_b b aa ab }
 {
@@ -85,7 +85,7 @@ fn nand_with(src_b: Option<Cell>, b: ControlNet, aa: ControlNet, ab: ControlNet)
     }
     // subsumption, nand-subsume: ~(aa & ab) & ~aa -> ~aa
     if opposite(aa, b) {
-        return normalize::from_control(b);
+        return Some(Change::from(b));
     }
     nand_with_aig(src_b, b, aa, ab)
 }
@@ -99,8 +99,5 @@ pub fn nand_with_either(
 ) -> Option<Change>
     ensures { result ≡ either_way (nand_with src_b b) a1 a2 }
 {
-    match nand_with(src_b, b, a1, a2) {
-        Some(change) => Some(change),
-        None => nand_with(src_b, b, a2, a1),
-    }
+    nand_with(src_b, b, a1, a2).or_else(|| nand_with(src_b, b, a2, a1))
 }

@@ -4,7 +4,6 @@ ghost use Rattle.value.specs.Value.{is_positive};
 ghost use Rattle.normalize.specs.Outcomes.{given, either_way};
 ghost use Rattle.aig.specs.Aig.{if_aig, xor_and, xor_with};
 
-use crate::differ;
 use aig::source;
 use cell::Cell;
 use normalize::Change;
@@ -17,7 +16,7 @@ fn xor_and(a: ControlNet, b: ControlNet, aa: Net, ab: Net, on: ControlNet) -> Op
     ensures { result ≡ xor_and a b aa ab on }
 {
     if aa == on.net() {
-        let inverted = !differ(a.is_negative(), on.is_negative());
+        let inverted = a.is_negative() == on.is_negative();
         return Some(Change::Form(Cell::Aig(ControlNet::from_net_invert(ab, inverted), b)));
     }
     None
@@ -44,10 +43,7 @@ fn xor_with_and(
 fn xor_with(src_b: Option<Cell>, a: ControlNet, b: ControlNet, aa: Net, ab: Net) -> Option<Change>
     ensures { result ≡ xor_with src_b a b aa ab }
 {
-    match xor_and(a, b, aa, ab, b) {
-        Some(change) => Some(change),
-        None => xor_with_and(src_b, a, b, aa, ab),
-    }
+    xor_and(a, b, aa, ab, b).or_else(|| xor_with_and(src_b, a, b, aa, ab))
 }
 
 #[tactic(auto, unfolding(normalize::specs::Outcomes::first_change))]
@@ -60,8 +56,5 @@ pub fn xor_with_either(
 ) -> Option<Change>
     ensures { result ≡ either_way (xor_with src_b a b) a1 a2 }
 {
-    match xor_with(src_b, a, b, a1, a2) {
-        Some(change) => Some(change),
-        None => xor_with(src_b, a, b, a2, a1),
-    }
+    xor_with(src_b, a, b, a1, a2).or_else(|| xor_with(src_b, a, b, a2, a1))
 }

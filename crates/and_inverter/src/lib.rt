@@ -1,5 +1,6 @@
 // `Cell::Aig` of `SimpleAigOpt`. a and b are its operands, aa and ab those of the cell that a is of, ba and bb those of the cell that b is of.
 // Rules are asked for in the order of the definition, and the first that applies decides. The arms are in `aig_arms`.
+// Nets, looked-up cells and both orders go one by one, for the reasons at the head of `aig_arms`.
 #![tactic(auto)]
 
 ghost use Rattle.std.specs.Prelude.{◌≡◌, false, not, ◌||◌, Some};
@@ -17,14 +18,14 @@ use value::{ControlNet, Net};
 fn contradicts(a: ControlNet, b: ControlNet) -> bool
     ensures { result ≡ (eq_control a (not_control b) || is_always b false) }
 {
-    aig_arms::opposite(a, b) | b.is_always(false)
+    aig_arms::opposite(a, b) || b.is_always(false)
 }
 
 // and-not: an inverter of v goes into the sign.
-fn merged(v: Net, a: ControlNet, b: ControlNet) -> Option<Change>
-    ensures { result ≡ Some (Form (Aig (from_net_invert v (not (is_negative a))) b)) }
+fn merged(v: Net, a: ControlNet, b: ControlNet) -> Change
+    ensures { result ≡ Form (Aig (from_net_invert v (not (is_negative a))) b) }
 {
-    Some(Change::Form(Cell::Aig(ControlNet::from_net_invert(v, !a.is_negative()), b)))
+    Change::Form(Cell::Aig(ControlNet::from_net_invert(v, !a.is_negative()), b))
 }
 
 // By the sign of a.
@@ -55,14 +56,14 @@ fn aig_of_gate(
     ensures { result ≡ (aig_of_not src_a a b or_else aig_of_and src_a src_b a b or_else aig_of_nand src_a src_b a b or_else aig_of_xor src_a src_b a b) }
 {
     match src_a? {
-        Cell::Not(v) => merged(v, a, b),
+        Cell::Not(v) => Some(merged(v, a, b)),
         Cell::Aig(a1, a2) => aig_of_aig(src_b, a, b, a1, a2),
         Cell::Xor(a1, a2) => aig_arms::xor::xor_with_either(src_b, a, b, a1, a2),
         _ => None,
     }
 }
 
-#[tactic(auto, using(normalize::proofs::First::tests), unfolding(normalize::specs::Outcomes::first_change, normalize::specs::Outcomes::from_control, aig::specs::Aig::aig_order))]
+#[tactic(auto, using(normalize::proofs::First::tests), unfolding(normalize::specs::Outcomes::first_change, aig::specs::Aig::aig_order))]
 fn aig_order(
     src_a: Option<Cell>,
     src_b: Option<Cell>,
@@ -73,19 +74,19 @@ fn aig_order(
 {
     // idempotence, and-same: a & a -> a
     if a == b {
-        return normalize::from_control(a);
+        return Some(Change::from(a));
     }
     if contradicts(a, b) {
         return Some(Change::Value(Net::ZERO));
     }
     // identity, and-one: a & 1 -> a
     if b.is_always(true) {
-        return normalize::from_control(a);
+        return Some(Change::from(a));
     }
     aig_of_gate(src_a, src_b, a, b)
 }
 
-// In both orders of the operands; a `match` and no `or_else`: its closure would borrow looked-up cells, and the rules took a tenth longer.
+// In both orders of the operands. `xor_rule` is the same over nets: one function for both would take the order as a closure, and be no shorter.
 #[tactic(auto, unfolding(normalize::specs::Outcomes::first_change, aig::specs::Aig::aig_rule))]
 pub fn aig_rule(
     src1: Option<Cell>,
@@ -95,8 +96,5 @@ pub fn aig_rule(
 ) -> Option<Change>
     ensures { result ≡ aig_rule src1 src2 net1 net2 }
 {
-    match aig_order(src1, src2, net1, net2) {
-        Some(change) => Some(change),
-        None => aig_order(src2, src1, net2, net1),
-    }
+    aig_order(src1, src2, net1, net2).or_else(|| aig_order(src2, src1, net2, net1))
 }

@@ -36,7 +36,7 @@ impl Accepted for Merged {
     ghost told = { λ m. accepted m.bytes (cond m.changed 1 0) };
 
     fn figures(self) -> (u32, u32) {
-        (self.bytes, self.changed as u32)
+        (self.bytes, u32::from(self.changed))
     }
 }
 

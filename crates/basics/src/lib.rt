@@ -10,7 +10,7 @@ pub fn pick<T: Copy>(b: bool, x: T, y: T) -> T
     if b { x } else { y }
 }
 
-// The element at an index, and d past the end.
+// The element at an index, and d past the end. A test and an index, as `put` has them: by `get` and `copied` it would be no shorter.
 pub fn get_or<T: Copy>(s: &[T], i: usize, d: T) -> T
     ensures { result ≡ get_or s.now i d }
 {

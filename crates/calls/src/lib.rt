@@ -8,7 +8,7 @@ pub struct Counts {
     pub gates: u32,
 }
 
-// Merging: the byte count, and whether an operand was changed.
+// Merging: the byte count, and whether an operand was changed. No Option: the count is there either way.
 #[derive(Clone, Copy, Debug, PartialEq, Eq)]
 pub struct Merged {
     pub bytes: u32,

@@ -1,83 +1,88 @@
 // The file `cases`, which says how they are written: a case read, and its ticket built.
 #![tactic(auto)]
 
-mod build;
-mod text;
+ghost use Rattle.std.specs.Prelude.{◌≡◌, ◌≤◌, ◌||◌, not, nat_eq, length, take, IfOk};
+ghost use Rattle.std.specs.Char.{is_ascii_alphabetic};
+ghost use Rattle.case_file.specs.Heads.{begins_with_letter};
+
+mod line;
+mod ticket;
 
 use outcome::Figures;
-pub use text::{byte, is_letter, next_line, skip_word};
+use thiserror::Error;
 
 #[derive(Clone, Copy)]
 pub struct Case {
     pub lent: u32,
     pub expected: Figures,
-    // The ticket's length.
+    // The ticket's length. Its bytes are in the caller's buffer, so that reading a case cannot run out of memory.
     pub bytes: usize,
-    // Every line was of a known form.
-    pub clear: bool,
 }
 
-fn head(text: &[u8], at: usize) -> Case {
-    let mut x = [0; 13];
-    let n = text::numbers(text, text::skip_word(text, at), &mut x);
-    Case {
-        lent: x[0],
-        expected: Figures {
-            number: x[1],
-            place: x[2],
-            count: x[3],
-            extra: x[4],
-            field: x[5],
-            spare: 0,
-        },
+// A line of a case is of no known form.
+#[derive(Clone, Copy, Debug, PartialEq, Eq, Error)]
+#[error("not understood")]
+pub struct NotUnderstood;
+
+// Whether a case begins here: its head does with a letter, and no other line.
+pub fn is_head(text: &[u8]) -> bool
+    ensures { result ≡ begins_with_letter text.now }
+{
+    text.first().is_some_and(|x| x.is_ascii_alphabetic())
+}
+
+// Whether a byte is in the case of the byte before it, so that a text is cut into its cases.
+pub fn goes_on(before: u8, x: u8) -> bool
+    ensures { result ≡ (not (nat_eq before 10) || not (is_ascii_alphabetic x)) }
+{
+    before != b'\n' || !x.is_ascii_alphabetic()
+}
+
+// A case's first word.
+pub fn name(case: &[u8]) -> &[u8]
+    ensures { result.now ≡ take (length result.now) case.now }
+{
+    case.split(|x| *x == b' ' || *x == b'\n')
+        .next()
+        .unwrap_or(case)
+}
+
+// NAME words number place records gates, and the field that a 7 has.
+fn head(line: &[u8]) -> Result<Case, NotUnderstood>
+    ensures bytes { IfOk result (λ case. case.bytes ≡ 0) }
+    ensures spare { IfOk result (λ case. case.expected.spare ≡ 0) }
+{
+    let figures = line.strip_prefix(name(line)).unwrap_or(line);
+    let numbers = line::numbers(figures)?;
+    let [lent, number, place, count, extra, field] = match *numbers.as_slice() {
+        [lent, number, place, count, extra] => [lent, number, place, count, extra, 0],
+        [lent, number, place, count, extra, field] => [lent, number, place, count, extra, field],
+        _ => return Err(NotUnderstood),
+    };
+    let expected = Figures {
+        number,
+        place,
+        count,
+        extra,
+        field,
+        spare: 0,
+    };
+    Ok(Case {
+        lent,
+        expected,
         bytes: 0,
-        clear: n == 5 || n == 6,
+    })
+}
+
+// The case that begins here, up to the next one's head. Its ticket's bytes are put into ticket.
+pub fn read(text: &[u8], ticket: &mut [u8]) -> Result<Case, NotUnderstood>
+    ensures in_ticket { IfOk result (λ case. case.bytes ≤ length ticket.new) }
+    ensures spare { IfOk result (λ case. case.expected.spare ≡ 0) }
+{
+    let mut lines = text.split(|x| *x == b'\n');
+    let mut case = head(lines.next().unwrap_or(text))?;
+    for line in lines.take_while(|line| !is_head(line)) {
+        case.bytes = line::take(line, ticket, case.bytes)?;
     }
-}
-
-// One record, so many of it, or so many with steps.
-fn records(text: &[u8], at: usize, ticket: &mut [u8], case: Case) -> Case {
-    let mut x = [0; 13];
-    let n = text::numbers(text, at, &mut x);
-    let times = if n == 6 { 1 } else { x[6] };
-    let mut longer = case;
-    longer.bytes = build::put_records(ticket, case.bytes, &mut x, times);
-    longer.clear = case.clear && (n == 6 || n == 7 || n == 13);
-    longer
-}
-
-fn cut(case: Case, bytes: usize) -> Case {
-    let mut shorter = case;
-    if bytes <= case.bytes {
-        shorter.bytes = case.bytes - bytes;
-    } else {
-        shorter.clear = false;
-    }
-    shorter
-}
-
-fn unclear(case: Case) -> Case {
-    let mut other = case;
-    other.clear = false;
-    other
-}
-
-fn line(text: &[u8], at: usize, ticket: &mut [u8], case: Case) -> Case {
-    match text::byte(text, at) {
-        b'0'..=b'9' => records(text, at, ticket, case),
-        b'-' => cut(case, text::number(text, text::behind(text, at)) as usize),
-        b'#' | b'\n' => case,
-        _ => unclear(case),
-    }
-}
-
-// The case whose head stands at a place. Its ticket's bytes are put into ticket.
-pub fn read(text: &[u8], from: usize, ticket: &mut [u8]) -> Case {
-    let mut case = head(text, from);
-    let mut at = text::next_line(text, from);
-    while at < text.len() && !text::is_letter(text[at]) {
-        case = line(text, at, ticket, case);
-        at = text::next_line(text, at);
-    }
-    case
+    Ok(case)
 }

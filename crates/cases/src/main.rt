@@ -2,75 +2,47 @@
 // that differs from what it expects.
 #![tactic(auto)]
 
-use outcome::Tally;
+use case_file::NotUnderstood;
+use outcome::{Mismatch, Tally};
 use std::{fs, io};
+use thiserror::Error;
 use trial::Lent;
 
-fn tell_name(rt: &impl Print, text: &[u8], from: usize) -> io::Result<()> {
-    let to = case_file::skip_word(text, from);
-    if from <= to && to <= text.len() {
-        rt.write_all(&text[from..to])?;
-    }
-    Ok(())
+// Why a case differs.
+#[derive(Clone, Copy, Debug, Error)]
+enum Fault {
+    #[error("{0}")]
+    Read(#[from] NotUnderstood),
+    #[error("{0}")]
+    Tried(#[from] Mismatch),
 }
 
-fn not_understood(rt: &impl Print, text: &[u8], at: usize) -> io::Result<bool> {
-    tell_name(rt, text, at)?;
-    println!(rt; ": not understood")?;
-    Ok(true)
-}
-
-// Runs the case whose head stands at a place and answers whether it differs.
-fn differs(
-    rt: &impl Print,
-    text: &[u8],
-    at: usize,
-    ticket: &mut [u8],
-    space: &mut [u32],
-    seed: u32,
-) -> io::Result<bool> {
-    let case = case_file::read(text, at, ticket);
-    let n = case.bytes;
-    if ticket.len() < n {
-        return not_understood(rt, text, at);
-    }
-    if !case.clear {
-        return not_understood(rt, text, at);
-    }
+// Reads a case, builds its ticket and runs it.
+fn tried(case: &[u8], ticket: &mut [u8], space: &mut [u32], seed: u32) -> Result<(), Fault> {
+    let case = case_file::read(case, ticket)?;
     let work = Lent {
         space,
         len: case.lent as usize,
         seed,
     };
-    let Err(mismatch) = trial::check(&ticket[..n], work, case.expected) else {
-        return Ok(false);
-    };
-    tell_name(rt, text, at)?;
-    println!(rt; ": {mismatch}")?;
-    Ok(true)
+    trial::check(&ticket[..case.bytes], work, case.expected)?;
+    Ok(())
 }
 
-// Runs a case if its head stands at a place.
-fn tried(
-    rt: &impl Print,
-    text: &[u8],
-    at: usize,
-    ticket: &mut [u8],
-    space: &mut [u32],
-    tally: Tally,
-) -> io::Result<Tally> {
-    if !case_file::is_letter(case_file::byte(text, at)) {
-        return Ok(tally);
-    }
-    Ok(tally.and(differs(rt, text, at, ticket, space, tally.tried)?))
-}
-
-fn run(rt: &impl Print, text: &[u8], ticket: &mut [u8], space: &mut [u32]) -> io::Result<Tally> {
-    let mut tally = Tally::new("cases");
-    let mut at = 0;
-    while at < text.len() {
-        tally = tried(rt, text, at, ticket, space, tally)?;
-        at = case_file::next_line(text, at);
+fn run(rt: &impl Print, text: &[u8]) -> io::Result<Tally> {
+    // Fixed buffers, here and for the text: with `Vec` the run could fail for want of memory.
+    let mut ticket = [0; 16384];
+    let mut space = [0; 17000];
+    let mut tally = Tally::new();
+    for case in text.chunk_by(|x, y| case_file::goes_on(*x, *y)) {
+        if case_file::is_head(case) {
+            let outcome = tried(case, &mut ticket, &mut space, tally.tried);
+            if let Err(fault) = outcome {
+                rt.write_all(case_file::name(case))?;
+                println!(rt; ": {fault}")?;
+            }
+            tally = tally.and(outcome.is_err());
+        }
     }
     Ok(tally)
 }
@@ -81,9 +53,7 @@ fn main(rt: HostRuntime) -> io::Result<()> {
         Err(error) => return eprintln!(rt; "cases: {error}"),
     };
     let mut text = [0; 65536];
-    let n = oracle_list::read_full(&mut file, &mut text)?;
-    let mut ticket = [0; 16384];
-    let mut space = [0; 17000];
-    let tally = run(&rt, &text[..n], &mut ticket, &mut space)?;
-    println!(rt; "{tally}")
+    let n = full_read::read_full(&mut file, &mut text)?;
+    let tally = run(&rt, &text[..n])?;
+    println!(rt; "{} cases, {} differ", tally.tried, tally.differ)
 }

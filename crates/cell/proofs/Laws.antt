@@ -62,3 +62,6 @@ digits-of-two w x = omega arith
 
 pub digits-of-four : (w x y z : ℕ) → w + x * 256 + y * 65536 + z * 16777216 ≡ w + 256 * (x + 256 * (y + 256 * z))
 digits-of-four w x y z = omega arith
+
+-- what the readers of a record cite
+pub ruleset bytes = (digits-of-two, digits-of-four)

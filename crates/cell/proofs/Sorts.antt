@@ -1,6 +1,6 @@
 -- The cell of a record of a given sort, and of one of no kind. Assumes nothing.
-use Rattle.std.specs.Prelude.{Option, Some, None}
-use mathlib.Core.Path.{◌≡◌, sym, ap, ◌∙◌}
+use Rattle.std.specs.Prelude.{Option, None}
+use mathlib.Core.Path.{◌≡◌, sym, ap}
 use mathlib.Core.Bool.{Bool, true, false, not, false≢true}
 use Rattle.value.specs.Value.{ZERO}
 use Rattle.kinds.specs.declared.Sort.{Sort}
@@ -10,14 +10,12 @@ use Rattle.cell.specs.declared.Record.{Record}
 use Rattle.cell.specs.declared.Cell.TheVariants.{Buf}
 use Rattle.cell.specs.Records.{cell_by, cell_of}
 
-pub cell-by : {x s : Sort} (r : Record) → Some x ≡ sort_of r.kind → x ≡ s → cell_by (Some s) r ≡ cell_of r
-unfolding cell_of
-cell-by r e f = ap (λ (y : Option Sort). cell_by y r) (sym (ap Some f) ∙ e)
-
-pub no-cell : (r : Record) → None ≡ sort_of r.kind → Buf ZERO ≡ cell_of r
+no-cell : (r : Record) → None ≡ sort_of r.kind → Buf ZERO ≡ cell_of r
 unfolding cell_of
 no-cell r e = ap (λ (y : Option Sort). cell_by y r) e
 
 pub unknown-cell : (b : Bool) (r : Record) → b ≡ is_known r.kind → not b ≡ true → Buf ZERO ≡ cell_of r
 unknown-cell true r e t = absurd (false≢true t)
 unknown-cell false r e t = no-cell r (unknown-sort r.kind (sym e))
+
+pub ruleset unknown = (unknown-cell)

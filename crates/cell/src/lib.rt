@@ -12,7 +12,8 @@ ghost use Rattle.cell.specs.Records.{record_at, bytes_of, record_of, flags_of, c
 use kinds::{Field, Sort};
 use value::{ControlNet, Driver, Net, Slot};
 
-// The 16 bytes of a slot, field by field.
+// The 16 bytes of a slot, field by field. No derived `==`: two records are compared but for the bit
+// (`design::queue::record_eq`).
 #[derive(Clone, Copy)]
 pub struct Record {
     pub kind: u8,
@@ -39,6 +40,7 @@ pub enum Cell {
 }
 
 // The number of four bytes that all lie in the slice: no test at the single bytes.
+#[tactic(auto, using(crate::proofs::Laws::bytes), unfolding(crate::specs::Bytes::word32))]
 fn word32(s: &[u8], i: usize) -> u32
     requires { i + 4 ≤ length s.now }
     ensures { result ≡ word32 s.now i }
@@ -46,7 +48,15 @@ fn word32(s: &[u8], i: usize) -> u32
     u32::from_le_bytes([s[i], s[i + 1], s[i + 2], s[i + 3]])
 }
 
-// The record of a slot of the ticket.
+// How many records a ticket's bytes hold; bytes behind the last whole record count for none.
+pub fn records(t: &[u8]) -> usize
+    ensures { result ≡ length t.now / 16 }
+{
+    t.len() / 16
+}
+
+// The record of a slot of the ticket. That the ticket has the slot stays a clause: a type of both would be a narrower parameter.
+#[tactic(auto, using(crate::proofs::Laws::bytes), unfolding(crate::specs::Records::record_at, crate::specs::Bytes::word16))]
 pub fn record_at(t: &[u8], s: Slot) -> Record
     requires { s.0 < length t.now / 16 }
     ensures { result ≡ record_at t.now s.0 }
@@ -63,6 +73,7 @@ pub fn record_at(t: &[u8], s: Slot) -> Record
 }
 
 // The kind byte of a slot of the ticket.
+#[tactic(auto, unfolding(crate::specs::Records::record_at))]
 pub fn kind_at(t: &[u8], s: Slot) -> u8
     requires { s.0 < length t.now / 16 }
     ensures { result ≡ (record_at t.now s.0).kind }
@@ -70,7 +81,8 @@ pub fn kind_at(t: &[u8], s: Slot) -> u8
     t[(s.0 as usize) * 16]
 }
 
-// Writes a number's four bytes, likewise.
+// Writes a number's four bytes, likewise, and one by one for the reason of `write_record`.
+#[tactic(auto, unfolding(crate::specs::Bytes::store32))]
 fn set32(s: &mut [u8], i: usize, v: u32)
     requires { i + 4 ≤ length s.old }
     ensures { s.new ≡ store32 s.old i v }
@@ -82,7 +94,7 @@ fn set32(s: &mut [u8], i: usize, v: u32)
     s[i + 3] = b3;
 }
 
-// Writes a record's 16 bytes into a slot that the reply has. Not by `copy_from_slice`, which tests at run time whether the two overlap.
+// Writes a record's 16 bytes into a slot that the reply has. Byte by byte: for `copy_from_slice` the 16 would be listed all the same, as an array.
 pub fn write_record(reply: &mut [u8], s: Slot, r: Record)
     requires { s.0 * 16 + 16 ≤ length reply.old }
     ensures { reply.new ≡ sets reply.old (s.0 * 16) (bytes_of r) }
@@ -108,7 +120,7 @@ fn edge_of(d: Driver) -> Option<Slot>
 }
 
 impl Record {
-    // What a field holds.
+    // What a field holds. Of the shape of `Kind::use_of`, which gives uses: a trait for both would be no shorter.
     #[tactic(auto, unfolding(crate::specs::Operands::field_of))]
     pub fn field(self, f: Field) -> u32
         ensures { result ≡ field_of self (field_number f) }
@@ -120,7 +132,8 @@ impl Record {
         }
     }
 
-    // Whether a field holds a net. By the tests that do not branch on the kind: the row of the kind would be jumped to.
+    // Whether a field holds a net. By the tests that do not branch on the kind: by its row, which is jumped to, the check of drawn tickets took 13 of
+    // 100 longer.
     #[tactic(auto, unfolding(crate::specs::Operands::is_operand, kinds::specs::Kinds::use_of))]
     pub fn is_operand(self, f: Field) -> bool
         ensures { result ≡ is_operand self (field_number f) }
@@ -141,6 +154,7 @@ impl Record {
     }
 
     // Where the combinational edge of a field leads: to a slot, or nowhere for a constant or a field that is no such operand.
+    #[tactic(auto, unfolding(crate::specs::Operands::edge_at))]
     pub fn edge_at(self, f: Field) -> Option<Slot>
         ensures { result ≡ edge_at self (field_number f) }
     {
@@ -152,26 +166,66 @@ impl Record {
     }
 }
 
+// The same of a field by its number, for who has no `Field`: that alone would be a narrower parameter; what names no field holds nothing.
+#[tactic(auto, unfolding(crate::specs::Operands::field_of))]
+pub fn field(r: Record, f: u32) -> u32
+    ensures { result ≡ field_of r f }
+{
+    match Field::try_from(f) {
+        Ok(f) => r.field(f),
+        Err(_) => 0,
+    }
+}
+
+#[tactic(auto, unfolding(crate::specs::Operands::is_operand, kinds::specs::Kinds::use_of))]
+pub fn is_operand(r: Record, f: u32) -> bool
+    ensures { result ≡ is_operand r f }
+{
+    match Field::try_from(f) {
+        Ok(f) => r.is_operand(f),
+        Err(_) => false,
+    }
+}
+
+#[tactic(auto, unfolding(crate::specs::Operands::is_comb_edge))]
+pub fn is_comb_edge(r: Record, f: u32) -> bool
+    ensures { result ≡ is_comb_edge r f }
+{
+    is_operand(r, f)
+}
+
+#[tactic(auto, unfolding(crate::specs::Operands::edge_at, crate::specs::Operands::is_comb_edge, crate::specs::Operands::is_operand, kinds::specs::Kinds::use_of))]
+pub fn edge_at(r: Record, f: u32) -> Option<Slot>
+    ensures { result ≡ edge_at r f }
+{
+    match Field::try_from(f) {
+        Ok(f) => r.edge_at(f),
+        Err(_) => None,
+    }
+}
+
 // The cell of a record. None of an unknown kind gets here; as a buffer of a constant it would read no slot.
 impl From<Record> for Cell {
     ghost from_gives = { λ r c. c ≡ cell_of r };
 
+    #[tactic(auto, using(crate::proofs::Sorts::unknown), unfolding(crate::specs::Records::cell_of))]
     fn from(r: Record) -> Cell {
-        // This first, so that the kind itself is what the match below jumps by.
+        // This first, so that the match below jumps by the kind itself (docs/DESIGN-PASS.md, "A bar of speed").
         if !kinds::is_known(r.kind) {
             return Cell::Buf(Net::ZERO);
         }
-        match kinds::sort_of(r.kind) {
-            None => Cell::Buf(Net::ZERO),
-            Some(Sort::Input) => Cell::Input(r.a),
-            Some(Sort::Output) => Cell::Output(Net(r.a), r.b),
-            Some(Sort::Buf) => Cell::Buf(Net(r.a)),
-            Some(Sort::Not) => Cell::Not(Net(r.a)),
-            Some(Sort::And) => Cell::And(Net(r.a), Net(r.b)),
-            Some(Sort::Or) => Cell::Or(Net(r.a), Net(r.b)),
-            Some(Sort::Xor) => Cell::Xor(Net(r.a), Net(r.b)),
-            Some(Sort::Mux) => Cell::Mux(Net(r.a), Net(r.b), Net(r.c)),
-            Some(Sort::Aig) => Cell::Aig(
+        match Sort::try_from(r.kind) {
+            Err(_) => Cell::Buf(Net::ZERO),
+            Ok(Sort::Input) => Cell::Input(r.a),
+            Ok(Sort::Output) => Cell::Output(Net(r.a), r.b),
+            Ok(Sort::Buf) => Cell::Buf(Net(r.a)),
+            Ok(Sort::Not) => Cell::Not(Net(r.a)),
+            Ok(Sort::And) => Cell::And(Net(r.a), Net(r.b)),
+            Ok(Sort::Or) => Cell::Or(Net(r.a), Net(r.b)),
+            Ok(Sort::Xor) => Cell::Xor(Net(r.a), Net(r.b)),
+            Ok(Sort::Mux) => Cell::Mux(Net(r.a), Net(r.b), Net(r.c)),
+            // A sign a bit of the flags byte, as the definition has them.
+            Ok(Sort::Aig) => Cell::Aig(
                 ControlNet::from_net_invert(Net(r.a), r.flags % 2 == 1),
                 ControlNet::from_net_invert(Net(r.b), r.flags / 2 % 2 == 1),
             ),
@@ -182,18 +236,10 @@ impl From<Record> for Cell {
 fn flags_of(p: ControlNet, q: ControlNet) -> u8
     ensures { result ≡ flags_of p q }
 {
-    if p.is_negative() {
-        if q.is_negative() {
-            return 3;
-        }
-        return 1;
-    }
-    if q.is_negative() {
-        return 2;
-    }
-    0
+    u8::from(p.is_negative()) + 2 * u8::from(q.is_negative())
 }
 
+// By position, so that each kind is a line below.
 fn record_of(sort: Sort, flags: u8, bit: u16, a: u32, b: u32, c: u32) -> Record
     ensures { result ≡ record_of (number_of sort) flags bit a b c }
 {

@@ -11,15 +11,13 @@ use Rattle.netlist.specs.Shape.{visit, visit_mut, has_effects}
 use Rattle.netlist.specs.Netlist.{cell_in}
 use Rattle.std.specs.Prelude.{None, Some, Option}
 use Rattle.numberer.specs.Numberer.{Entry, seek}
-use Rattle.design.specs.Queue.{net_in, unchanged, map_net_new, Source}
+use Rattle.design.specs.Queue.{net_in, unchanged, map_net_new}
 use Rattle.rewrite.specs.Rewriter.{Rewriter, begun, Lookup, find_cell, entered, finished}
 use Rattle.rewrite.specs.Rewrite.{Result, none, cell, value, spent, Added, at, unadded, entry, asked, process_cell, add_cell, Run, ran, stuck, bit_done, cell_done, run_item}
-use Rattle.basics.specs.Lists.{All}
 use Rattle.basics.proofs.Truth.{either}
-use Rattle.basics.proofs.Members.{all-every}
 use Rattle.order_laws.proofs.Queue.{else_found, seek-append}
-use Rattle.aig_laws.specs.Reads.{GateOf, SourceNets}
 use Rattle.rewrite_laws.proofs.Kept.{Keeps, rules-read, inverse-reads, Left, KeptResult, KeptAdded, KeptPass, process_cell-kept, add_cell-kept}
+use Rattle.rewrite_laws.proofs.Anything.{Any, Gate, any-nets, any-source}
 use Rattle.rewrite_laws.proofs.Items.{item_by, rules-effect}
 use Rattle.cell_cache.specs.CellCache.{cell_cache}
 use Rattle.cell_cache.specs.Exchanged.{process_by, process_cell_by}
@@ -43,20 +41,6 @@ both-more es fs e c f h =
 pub record Covered (n : ℕ) (r : Rewriter) : Type 0 where
   pub slots : n ≤ length r.design.cells
   pub covers : (c : Cell) → seek r.cache c ≡ None → seek (cell_cache n r.design.cells) c ≡ None
-
--- gates, whatever they read
-abbrev pub Any : Net → Type 0
-Any m = Unit {0}
-
-abbrev pub Gate : Cell → Type 0
-Gate c = GateOf Any c
-
-any-nets : (ms : List Net) → All Any ms
-any-nets = all-every Any (λ m. tt)
-
-any-source : (src : Source) → SourceNets Any src
-any-source None = tt
-any-source (Some c) = any-nets (visit c)
 
 pub gate : (c : Cell) → has_effects c ≡ false → Gate c
 gate c e = (any-nets (visit c), e)

@@ -28,7 +28,8 @@ use Rattle.rewrite_laws.proofs.Kept.{enter-kept, pass_kept, process-kept, proces
 use Rattle.cell_cache.specs.CellCache.{added_by, add_cell_with_metadata_index}
 use Rattle.cell_cache.specs.Exchanged.{enter_by, turn_by, process_by, process_cell_by, add_cell_by, run_item_by, run_items_by, run_by, rewrite_by}
 use Rattle.cell_cache.proofs.Plain.{process_cell-plain}
-use Rattle.cell_cache.proofs.Covered.{Covered, Any, Gate, gate, begun-covered, port-asked, keeping, LeftOver, Processed, Passed, Entered, CoveredRun, run_item-covered}
+use Rattle.rewrite_laws.proofs.Anything.{Any, Gate}
+use Rattle.cell_cache.proofs.Covered.{Covered, gate, begun-covered, port-asked, keeping, LeftOver, Processed, Passed, Entered, CoveredRun, run_item-covered}
 
 module _ (look : Lookup) (n : ℕ) where
   abbrev adds : Rewriter → Cell → Added

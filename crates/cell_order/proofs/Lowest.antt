@@ -22,7 +22,7 @@ use Rattle.basics.proofs.Tables.{tabulate-length, tabulate-at}
 use Rattle.netlist.specs.Shape.{visit}
 use Rattle.netlist.specs.Netlist.{netlist_of, cell_in, driven_by, sources, start_of, run}
 use Rattle.netlist.specs.inner.Areas.{word_record, records_in}
-use Rattle.order.specs.declared.Operands.{Operands}
+use Rattle.netlist.specs.declared.fields.Operands.{Operands}
 use Rattle.order.specs.inner.Code.{visited_in}
 use Rattle.order.specs.inner.Descent.{operands_of}
 use Rattle.cell_order.specs.inner.Descent.{bits_in, starts_of, bit_reads, read_up_to, read_by, Lowest, Lowers}

@@ -8,7 +8,6 @@ use native.Mathlib.Numerals.{add-one}
 use lib.Dec.{eqb}
 use lib.ListN.{length, get_or, set, length-append, get_or-replicate}
 use lib.Seq.{get_or-set_other}
-use borrow.Author.Tests.{eq-eqb, ne_eqb}
 use Rattle.cell.specs.declared.Record.{Record}
 use Rattle.cell.specs.declared.Cell.{Cell}
 use Rattle.basics.specs.Lists.{tabulate, slots, those}
@@ -44,15 +43,6 @@ pub starts_more : (q : Cell → Bool) (rs : List Record) (s : ℕ) → starts_th
 unfolding tabulate
 starts_more q rs s = ap (λ (m : ℕ). starts_that q rs (slots m)) (add-one s) ∙ starts-append q rs (slots s) (s ∷ [])
 
--- over all slots they are those of the cells' starts
-pub starts-cells : (q : Cell → Bool) (n : ℕ) (ws : List ℕ)
-    → starts_that q (records_in n ws) (slots n)
-    ≡ those (λ s. q (cell_in (netlist_of (records_in n ws)).cells s)) (iter_cells (netlist_of (records_in n ws)).bits)
-unfolding starts_that iter_cells netlist_of bits_in
-starts-cells q n ws =
-    ap (λ (m : ℕ). those (λ s. q (cell_in (map cell_of (records_in n ws)) s)) (those (λ s. eqb (get_or (bits_in (records_in n ws)) s 0) 0) (slots m)))
-    (sym (bits-length n ws))
-
 pub starts-length : (q : Cell → Bool) (rs : List Record) (m : ℕ) → length (starts_that q rs (slots m)) ≤ m
 unfolding starts_that
 starts-length q rs m =
@@ -61,19 +51,19 @@ starts-length q rs m =
     omega (arith, those-length pass (those start (slots m)), those-length start (slots m), tabulate-length (λ (s : ℕ). s) m)
 
 -- one slot: inside a cell, or by what starts there
-module _ (q : Cell → Bool) (n : ℕ) (ws : List ℕ) (s x : ℕ) (e : x ≡ get_or (bits_in (records_in n ws)) s 0) where
-  pub starts-inside : (x ≡ 0 → ⊥) → starts_that q (records_in n ws) (s ∷ []) ≡ []
+module _ (q : Cell → Bool) (n : ℕ) (ws : List ℕ) (s : ℕ) (a : Bool) (e : a ≡ eqb (get_or (bits_in (records_in n ws)) s 0) 0) where
+  pub starts-inside : a ≡ false → starts_that q (records_in n ws) (s ∷ []) ≡ []
   unfolding starts_that those
   starts-inside h =
       ap (those (λ u. q (cell_in (map cell_of (records_in n ws)) u)))
-      (one_left (λ u. eqb (get_or (bits_in (records_in n ws)) u 0) 0) s (ne_eqb (get_or (bits_in (records_in n ws)) s 0) 0 (λ z. h (e ∙ z))))
+      (one_left (λ u. eqb (get_or (bits_in (records_in n ws)) u 0) 0) s (sym e ∙ h))
 
-  module _ (z : x ≡ 0) (l : s < n) where
+  module _ (z : a ≡ true) (l : s < n) where
     starts-here : starts_that q (records_in n ws) (s ∷ []) ≡ those (λ u. q (cell_in (map cell_of (records_in n ws)) u)) (s ∷ [])
     unfolding starts_that
     starts-here =
         ap (those (λ u. q (cell_in (map cell_of (records_in n ws)) u)))
-        (one-taken (λ u. eqb (get_or (bits_in (records_in n ws)) u 0) 0) s (eq-eqb (get_or (bits_in (records_in n ws)) s 0) 0 (sym e ∙ z)))
+        (one-taken (λ u. eqb (get_or (bits_in (records_in n ws)) u 0) 0) s (sym e ∙ z))
 
     pub starts-taken : q (cell_of (word_record ws s)) ≡ true → starts_that q (records_in n ws) (s ∷ []) ≡ s ∷ []
     starts-taken t = starts-here ∙ one-taken (λ u. q (cell_in (map cell_of (records_in n ws)) u)) s (ap q (cell_at n ws s l) ∙ t)
@@ -87,13 +77,13 @@ unfolding each
 emits_none xs s n count ws e = subst (λ (ys : List ℕ). Emits ys s n count ws ws count) (sym e)
     (record { said = refl; total = refl; others = λ u h. refl; frame = within_none visited_at replaced_at ws })
 
-module _ (n count : ℕ) (ws : List ℕ) (s x : ℕ) (e : x ≡ get_or (bits_in (records_in n ws)) s 0) where
-  pub emit-inside : (x ≡ 0 → ⊥) → Emits (starts_that is_source (records_in n ws) (s ∷ [])) s n count ws ws count
-  emit-inside h = emits_none _ s n count ws (starts-inside is_source n ws s x e h)
+module _ (n count : ℕ) (ws : List ℕ) (s : ℕ) (a : Bool) (e : a ≡ eqb (get_or (bits_in (records_in n ws)) s 0) 0) where
+  pub emit-inside : a ≡ false → Emits (starts_that is_source (records_in n ws) (s ∷ [])) s n count ws ws count
+  emit-inside h = emits_none _ s n count ws (starts-inside is_source n ws s a e h)
 
-  module _ (new : visited_in n ws s ≡ false) (z : x ≡ 0) (b : Bool) (i : b ≡ is_source (cell_of (word_record ws s))) where
+  module _ (new : visited_in n ws s ≡ false) (z : a ≡ true) (b : Bool) (i : b ≡ is_source (cell_of (word_record ws s))) where
     pub emit-left : b ≡ false → Emits (starts_that is_source (records_in n ws) (s ∷ [])) s n count ws ws count
-    emit-left f = emits_none _ s n count ws (starts-left is_source n ws s x e z (new-below n ws s new) (sym i ∙ f))
+    emit-left f = emits_none _ s n count ws (starts-left is_source n ws s a e z (new-below n ws s new) (sym i ∙ f))
 
     module _ (g : Ready n count ws) (ws₁ ws₂ : List ℕ) (o : ws₁ ≡ set ws (visited_at + s) 1) (p : ws₂ ≡ set ws₁ (order_at + count) s) where
       below : count < 1024
@@ -109,7 +99,7 @@ module _ (n count : ℕ) (ws : List ℕ) (s x : ℕ) (e : x ≡ get_or (bits_in 
       unfolding each
       emit-done t =
           let r : Ready n count ws₁ = marked-ready n count ws ws₁ s g new o in
-          subst (λ (ys : List ℕ). Emits ys s n count ws ws₂ (count + 1)) (sym (starts-taken is_source n ws s x e z (new-below n ws s new) (sym i ∙ t))) (record {
+          subst (λ (ys : List ℕ). Emits ys s n count ws ws₂ (count + 1)) (sym (starts-taken is_source n ws s a e z (new-below n ws s new) (sym i ∙ t))) (record {
             said = emitted;
             total = omega (
               arith,
@@ -179,28 +169,28 @@ module _ (n : ℕ) (ws₁ ws : List ℕ) (count s : ℕ) (g : Putting n ws₁ ws
   }
 
 -- a cell that passes a test, or none
-module _ (q : Cell → Bool) (n count : ℕ) (ws : List ℕ) (s x : ℕ) (e : x ≡ get_or (bits_in (records_in n ws)) s 0) where
-  pub start-inside : (x ≡ 0 → ⊥) → Walks cells_by (starts_that q (records_in n ws) (s ∷ [])) n count ws ws count
+module _ (q : Cell → Bool) (n count : ℕ) (ws : List ℕ) (s : ℕ) (a : Bool) (e : a ≡ eqb (get_or (bits_in (records_in n ws)) s 0) 0) where
+  pub start-inside : a ≡ false → Walks cells_by (starts_that q (records_in n ws) (s ∷ [])) n count ws ws count
   start-inside h =
-      subst (λ (xs : List ℕ). Walks cells_by xs n count ws ws count) (sym (starts-inside q n ws s x e h)) (walks-none cells_by n count ws)
+      subst (λ (xs : List ℕ). Walks cells_by xs n count ws ws count) (sym (starts-inside q n ws s a e h)) (walks-none cells_by n count ws)
 
-  module _ (l : s < n) (z : x ≡ 0) where
+  module _ (l : s < n) (z : a ≡ true) where
     pub start_left : q (cell_of (word_record ws s)) ≡ false → Walks cells_by (starts_that q (records_in n ws) (s ∷ [])) n count ws ws count
     start_left f =
-        subst (λ (xs : List ℕ). Walks cells_by xs n count ws ws count) (sym (starts-left q n ws s x e z l f)) (walks-none cells_by n count ws)
+        subst (λ (xs : List ℕ). Walks cells_by xs n count ws ws count) (sym (starts-left q n ws s a e z l f)) (walks-none cells_by n count ws)
 
     pub start-taken : q (cell_of (word_record ws s)) ≡ true → (ws' : List ℕ) (r : ℕ) → Walks cells_by (s ∷ []) n count ws ws' r
         → Walks cells_by (starts_that q (records_in n ws) (s ∷ [])) n count ws ws' r
-    start-taken t ws' r v = subst (λ (xs : List ℕ). Walks cells_by xs n count ws ws' r) (sym (starts-taken q n ws s x e z l t)) v
+    start-taken t ws' r v = subst (λ (xs : List ℕ). Walks cells_by xs n count ws ws' r) (sym (starts-taken q n ws s a e z l t)) v
 
-module _ (n count : ℕ) (ws : List ℕ) (s x : ℕ) (e : x ≡ get_or (bits_in (records_in n ws)) s 0) (l : s < n) (z : x ≡ 0) (b : Bool)
+module _ (n count : ℕ) (ws : List ℕ) (s : ℕ) (a : Bool) (e : a ≡ eqb (get_or (bits_in (records_in n ws)) s 0) 0) (l : s < n) (z : a ≡ true) (b : Bool)
     (i : b ≡ is_output (cell_of (word_record ws s))) where
   pub start-output : b ≡ true → Walks cells_by (starts_that not_output (records_in n ws) (s ∷ [])) n count ws ws count
-  start-output t = start_left not_output n count ws s x e l z (ap not (sym i ∙ t))
+  start-output t = start_left not_output n count ws s a e l z (ap not (sym i ∙ t))
 
   pub start_cell : b ≡ false → (ws' : List ℕ) (r : ℕ) → Walks cells_by (s ∷ []) n count ws ws' r
       → Walks cells_by (starts_that not_output (records_in n ws) (s ∷ [])) n count ws ws' r
-  start_cell f = start-taken not_output n count ws s x e l z (ap not (sym i ∙ f))
+  start_cell f = start-taken not_output n count ws s a e l z (ap not (sym i ∙ f))
 
 -- the cells below s that pass a test were walked to
 pub record Going (q : Cell → Bool) (n begin : ℕ) (ws₀ ws : List ℕ) (count s : ℕ) : Type 0 where
@@ -234,20 +224,20 @@ appends-none : (xs : List ℕ) (count : ℕ) (ws : List ℕ) → xs ≡ [] → A
 appends-none xs count ws e = subst (λ (ys : List ℕ). Appends ys count ws ws count) (sym e)
     (record { said = sym (append-nil (words_in order_at count ws)); frame = within_none order_at replaced_at ws })
 
-module _ (n count : ℕ) (ws : List ℕ) (s x : ℕ) (e : x ≡ get_or (bits_in (records_in n ws)) s 0) where
-  pub append-inside : (x ≡ 0 → ⊥) → Appends (starts_that is_output (records_in n ws) (s ∷ [])) count ws ws count
-  append-inside h = appends-none _ count ws (starts-inside is_output n ws s x e h)
+module _ (n count : ℕ) (ws : List ℕ) (s : ℕ) (a : Bool) (e : a ≡ eqb (get_or (bits_in (records_in n ws)) s 0) 0) where
+  pub append-inside : a ≡ false → Appends (starts_that is_output (records_in n ws) (s ∷ [])) count ws ws count
+  append-inside h = appends-none _ count ws (starts-inside is_output n ws s a e h)
 
-  module _ (l : s < n) (z : x ≡ 0) (b : Bool) (i : b ≡ is_output (cell_of (word_record ws s))) where
+  module _ (l : s < n) (z : a ≡ true) (b : Bool) (i : b ≡ is_output (cell_of (word_record ws s))) where
     pub append_left : b ≡ false → Appends (starts_that is_output (records_in n ws) (s ∷ [])) count ws ws count
-    append_left f = appends-none _ count ws (starts-left is_output n ws s x e z l (sym i ∙ f))
+    append_left f = appends-none _ count ws (starts-left is_output n ws s a e z l (sym i ∙ f))
 
     pub append-done : b ≡ true → Free n count ws → (ws' : List ℕ) → ws' ≡ set ws (order_at + count) s
         → Appends (starts_that is_output (records_in n ws) (s ∷ [])) count ws ws' (count + 1)
     append-done t g ws' p =
         subst (λ (vs : List ℕ). Appends (starts_that is_output (records_in n ws) (s ∷ [])) count ws vs (count + 1)) (sym p) (record {
           said = words-push n ws count s g.few g.long g.room
-              ∙ ap (λ (xs : List ℕ). words_in order_at count ws ++ xs) (sym (starts-taken is_output n ws s x e z l (sym i ∙ t)));
+              ∙ ap (λ (xs : List ℕ). words_in order_at count ws ++ xs) (sym (starts-taken is_output n ws s a e z l (sym i ∙ t)));
           frame = order-frame n ws count s g.few g.long g.room;
         })
 

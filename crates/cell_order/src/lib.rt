@@ -2,7 +2,7 @@
 // and its areas in the work slice are those of `order`.
 #![tactic(auto)]
 
-ghost use Rattle.std.specs.Prelude.{◌≡◌, false, [], ◌∷◌, ◌+◌, ◌≤◌, ◌<◌, length, get_or};
+ghost use Rattle.std.specs.Prelude.{◌≡◌, false, [], ◌∷◌, ◌+◌, ◌≤◌, ◌<◌, length, eqb, get_or};
 ghost use Rattle.netlist.specs.Shape.{is_source, is_output};
 ghost use Rattle.netlist.specs.Netlist.{start_of};
 ghost use Rattle.basics.specs.Lists.{slots};
@@ -15,7 +15,8 @@ ghost use Rattle.cell_order.specs.inner.Starts.{starts_that, not_output, Emits, 
 use netlist::area;
 use value::{Driver, Net, Slot};
 
-// The number of a slot's bit in its cell; 0 for what is no item.
+// The number of a slot's bit in its cell; 0 for what is no item. From the first word, as `word_record` has it: a record's bit is a u16, which each
+// caller would widen.
 pub fn bit_of(work: &[u32], n: u32, s: Slot) -> u32
     ensures { result ≡ get_or (bits_in (records_in n work.now)) s.0 0 }
 {
@@ -29,61 +30,69 @@ pub fn bit_of(work: &[u32], n: u32, s: Slot) -> u32
 pub fn start_of(work: &[u32], n: u32, s: Slot) -> u32
     ensures { result ≡ start_of (bits_in (records_in n work.now)) s.0 }
 {
-    let bit = bit_of(work, n, s);
-    if bit <= s.0 {
-        return s.0 - bit;
-    }
-    0
+    s.0.saturating_sub(bit_of(work, n, s))
 }
 
-// The lower of `best` and y, if y is at least `from` and was not visited.
-fn lower(work: &[u32], n: u32, y: u32, from: u32, best: u32) -> u32
-    ensures { Lowers n work.now from (y ∷ []) best result }
-{
-    if y < from {
-        return best;
-    }
-    if best <= y {
-        return best;
-    }
-    if order::is_visited(work, n, Slot(y)) {
-        return best;
-    }
-    y
+// A search for the lowest cell from a slot on, among the first n, that was not visited.
+#[derive(Clone, Copy)]
+struct Search<'a> {
+    work: &'a [u32],
+    n: u32,
+    from: u32,
 }
 
-// So for the start of the cell that drives a net.
-fn lower_net(work: &[u32], n: u32, x: Net, from: u32, best: u32) -> u32
-    ensures { Lowers n work.now from (starts_of (records_in n work.now) x) best result }
-{
-    match x.as_cell_index() {
-        Driver::Const(_) => best,
-        Driver::Cell(s) => lower(work, n, start_of(work, n, s), from, best),
+impl<'a> Search<'a> {
+    // The lower of `best` and y, if y is at least `from` and was not visited.
+    fn lower(&self, y: u32, best: u32) -> u32
+        ensures { Lowers self.now.n self.now.work.now self.now.from (y ∷ []) best result }
+    {
+        if y < self.from {
+            return best;
+        }
+        if best <= y {
+            return best;
+        }
+        if order::is_visited(self.work, self.n, Slot(y)) {
+            return best;
+        }
+        y
+    }
+
+    // So for the start of the cell that drives a net.
+    fn lower_net(&self, x: Net, best: u32) -> u32
+        ensures { Lowers self.now.n self.now.work.now self.now.from (starts_of (records_in self.now.n self.now.work.now) x) best result }
+    {
+        match x.as_cell_index() {
+            Driver::Const(_) => best,
+            Driver::Cell(s) => self.lower(start_of(self.work, self.n, s), best),
+        }
+    }
+
+    // So for all operands of a bit.
+    fn lower_bit(&self, s: Slot, best: u32) -> u32
+        requires { s.0 < self.now.n }
+        ensures { Lowers self.now.n self.now.work.now self.now.from (bit_reads (records_in self.now.n self.now.work.now) s.0) best result }
+    {
+        let reads = order::operands_at(self.work, s);
+        let first = self.lower_net(reads.0, best);
+        let second = self.lower_net(reads.1, first);
+        self.lower_net(reads.2, second)
     }
 }
 
-// So for all operands of a bit.
-fn lower_bit(work: &[u32], n: u32, s: Slot, from: u32, best: u32) -> u32
-    requires { s.0 < n }
-    ensures { Lowers n work.now from (bit_reads (records_in n work.now) s.0) best result }
-{
-    let reads = order::operands_at(work, s);
-    let first = lower_net(work, n, reads.0, from, best);
-    let second = lower_net(work, n, reads.1, from, first);
-    lower_net(work, n, reads.2, from, second)
-}
-
-// The lowest cell from a slot on that a cell reads and that was not visited, by its start; n if there is none.
+// The lowest cell from a slot on that a cell reads and that was not visited, by its start; n if there is none. No Option: n is the lowest so far that
+// the search begins with.
 fn next_dep(work: &[u32], n: u32, s: Slot, from: u32) -> u32
     requires s_lt_n { s.0 < n }
     requires n_bound { n ≤ 1024 }
     ensures { Lowest n work.now from (read_by (records_in n work.now) s.0) result }
 {
+    let search = Search { work, n, from };
     let mut best = n;
     let mut i = s.0;
     // No `for` over s.0..n: it asks for the end once more for each bit, and what compact keeps of inputs took 12 % longer to mark.
     loop {
-        best = lower_bit(work, n, Slot(i), from, best);
+        best = search.lower_bit(Slot(i), best);
         i += 1;
         if bit_of(work, n, Slot(i)) == 0 {
             return best;
@@ -110,9 +119,9 @@ fn visit_cell(work: &mut [u32], n: u32, s: Slot, count: u32) -> u32
     requires s_value { visited_in n work.old s.0 ≡ false }
     ensures { Walks cells_by (s.0 ∷ []) n count work.old work.new result }
 {
-    basics::put(work, area::VISITED + (s.0 as usize), 1);
+    area::VISITED.put(work, s, 1);
     let c = walk_deps(work, n, s, 0, count);
-    basics::put(work, area::ORDER + (c as usize), s.0);
+    area::ORDER.put(work, Slot(c), s.0);
     c + 1
 }
 
@@ -131,18 +140,24 @@ fn walk_deps(work: &mut [u32], n: u32, s: Slot, from: u32, count: u32) -> u32
     count
 }
 
-// Puts a slot into the order and marks it if a source starts there.
+// Whether a cell starts in a slot.
+fn is_start(work: &[u32], n: u32, s: Slot) -> bool
+    ensures { result ≡ eqb (get_or (bits_in (records_in n work.now)) s.0 0) 0 }
+{
+    bit_of(work, n, s) == 0
+}
+
+// Puts a slot into the order and marks it if a source starts there. This, `walk_start` and `put_output` have the test for a start alone in
+// common: what each asks of the cell, and does with it, differs. One loop for the three, with the step as a closure, was tried, and the proof did
+// not close: a step may be taken at the words that those before it left, and not at any.
 fn put_source(work: &mut [u32], n: u32, s: Slot, count: u32) -> u32
     requires ready { Ready n count work.old }
     requires s_value { visited_in n work.old s.0 ≡ false }
     ensures { Emits (starts_that is_source (records_in n work.old) (s.0 ∷ [])) s.0 n count work.old work.new result }
 {
-    if bit_of(work, n, s) != 0 {
-        return count;
-    }
-    if netlist::is_source(work, s) {
-        basics::put(work, area::VISITED + (s.0 as usize), 1);
-        basics::put(work, area::ORDER + (count as usize), s.0);
+    if is_start(work, n, s) && netlist::is_source(work, s) {
+        area::VISITED.put(work, s, 1);
+        area::ORDER.put(work, Slot(count), s.0);
         return count + 1;
     }
     count
@@ -167,13 +182,10 @@ fn walk_start(work: &mut [u32], n: u32, s: Slot, count: u32) -> u32
     requires s_lt_n { s.0 < n }
     ensures { Walks cells_by (starts_that not_output (records_in n work.old) (s.0 ∷ [])) n count work.old work.new result }
 {
-    if bit_of(work, n, s) != 0 {
-        return count;
+    if is_start(work, n, s) && !netlist::is_output(work, s) {
+        return walk_cell(work, n, s, count);
     }
-    if netlist::is_output(work, s) {
-        return count;
-    }
-    walk_cell(work, n, s, count)
+    count
 }
 
 fn walk_starts(work: &mut [u32], n: u32, sources: u32) -> u32
@@ -193,11 +205,8 @@ fn put_output(work: &mut [u32], n: u32, s: Slot, count: u32) -> u32
     requires s_lt_n { s.0 < n }
     ensures { Appends (starts_that is_output (records_in n work.old) (s.0 ∷ [])) count work.old work.new result }
 {
-    if bit_of(work, n, s) != 0 {
-        return count;
-    }
-    if netlist::is_output(work, s) {
-        basics::put(work, area::ORDER + (count as usize), s.0);
+    if is_start(work, n, s) && netlist::is_output(work, s) {
+        area::ORDER.put(work, Slot(count), s.0);
         return count + 1;
     }
     count

@@ -24,3 +24,6 @@ module _ (t ws ws' : List ℕ) (v : Verdict) (b : Begins t ws ws' v) where
   pub checked-accepted : (r : Result Counts Refusal) → v ≡ Ok tt → r ≡ Ok (counts_of (length t / 16) (gate_count (records_of t))) → r ≡ check_answer (length ws) t
   unfolding check_answer check_verdict
   checked-accepted r e f = f ∙ rw (sym b.said ∙ e)
+
+-- what `check` cites
+pub ruleset answered = (checked_refused, checked-few, checked-accepted)

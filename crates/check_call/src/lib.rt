@@ -17,12 +17,13 @@ fn counts(ticket: &[u8]) -> Counts
     ensures { result ≡ counts_of (length ticket.now / 16) (gate_count (records_of ticket.now)) }
 {
     Counts {
-        records: (ticket.len() / 16) as u32,
+        records: cell::records(ticket) as u32,
         gates: checking::gate_count(ticket),
     }
 }
 
 // Checks a ticket: refusals 1 to 8, or its record count and gate count.
+#[tactic(auto, using(crate::proofs::Answers::answered))]
 pub fn check(ticket: &[u8], work: &mut [u32]) -> Result<Counts, Refusal>
     ensures value { result ≡ check_answer (length work.old) ticket.now }
     ensures work_after { work.new ≡ cleared work.old }

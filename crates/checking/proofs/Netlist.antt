@@ -72,12 +72,12 @@ module _ (t : List ℕ) where
     all_pass : first_of (record_group (records_of t)) ≡ Ok tt
     all_pass = sym pass
 
-    pub searchable : (ws : List ℕ) → 16384 ≤ length ws → length t / 16 ≤ 512 → Searchable (records_of t) (length t / 16) ws
-    searchable ws l m = record {
+    pub searchable : (n : ℕ) → n ≡ length t / 16 → (ws : List ℕ) → 16384 ≤ length ws → length t / 16 ≤ 512 → Searchable (records_of t) n ws
+    searchable n e ws l m = record {
       long = l;
-      count = records-length t;
-      few = m;
-      inside = λ s g x q. subst (λ (k : ℕ). x.0 < k) (records-length t) (edges-inside (records_of t) all_pass s g x q);
+      count = records-length t ∙ sym e;
+      few = omega (arith, m);
+      inside = λ s g x q. subst (λ (k : ℕ). x.0 < k) (records-length t ∙ sym e) (edges-inside (records_of t) all_pass s g x q);
     }
 
     module _ (ws ws' : List ℕ) (r : Option Slot) (found : Finds (records_of t) ws ws' r) where
@@ -117,3 +117,8 @@ module _ (words : ℕ) (t : List ℕ) (long : 16384 ≤ words) where
 
     pub netlist-decides : length t / 16 ≤ 512 → (v : Verdict) → v ≡ first_of (netlist_stages (records_of t)) → v ≡ first_of (check_stages words t)
     netlist-decides h v f = f ∙ sym (sizes-passed words t (past-torn ∙ (one-exactly (size_stage t)).1 (le-ltb 512 (length t / 16) h)))
+
+-- what the functions of the code cite
+pub ruleset netlist_steps = (records-refuse)
+
+pub ruleset sizes_steps = (torn, too_many, netlist-decides)

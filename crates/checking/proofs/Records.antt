@@ -1,23 +1,22 @@
 -- What the tests of one record and the loops over the records show. Assumes nothing.
 use mathlib.Core.Path.{◌≡◌, refl, sym, ap, ap₂, ◌∙◌}
-use mathlib.Core.Bool.{Bool, true, false, not, ◌||◌}
+use mathlib.Core.Bool.{Bool, true, false}
 use mathlib.Core.List.{List, [], ◌∷◌, ◌++◌}
-use Prim.Native.Nat.{ℕ, ◌+◌, ◌-◌, ◌/◌, ◌<◌, ◌≤◌}
+use Prim.Native.Nat.{ℕ, zero, suc, ◌+◌, ◌-◌, ◌/◌, ◌<◌, ◌≤◌}
 use native.Mathlib.Omega.{arith}
 use native.Mathlib.Numerals.{add-one}
-use lib.Dec.{eqb}
-use lib.ListN.{length}
-use borrow.Author.Tests.{lt-ltb, le-ltb, ne_eqb}
+use lib.Dec.{eqb, leb}
+use lib.ListN.{length, get_or}
+use borrow.Author.Tests.{lt-ltb, le-ltb, le-leb}
 use Rattle.std.specs.Prelude.{Ok, Err}
 use Rattle.value.specs.declared.Slot.{Slot}
 use Rattle.value.specs.declared.Driver.{Driver}
 use Rattle.value.specs.declared.Driver.TheVariants as driven
+use Rattle.kinds.specs.declared.Field.{Field}
 use Rattle.kinds.specs.declared.Field.TheVariants as field
 use Rattle.cell.specs.declared.Record.{Record}
 use Rattle.kinds.specs.declared.Kind.{Kind}
-use Rattle.value.specs.Value.{net_at, driver}
-use Rattle.kinds.specs.Kinds.{kind_of}
-use Rattle.cell.specs.Operands.{field_of, is_operand}
+use Rattle.kinds.specs.Kinds.{kind_of, field_number}
 use Rattle.basics.specs.Lists.{tabulate}
 use Rattle.cell.specs.Records.{record_at, records_of, record_in}
 use Rattle.kinds.proofs.Laws.{gates-one}
@@ -25,38 +24,25 @@ use Rattle.cell.proofs.Lists.{records-length, records-at}
 use Rattle.refusals.specs.declared.Refusal.{Refusal}
 use Rattle.refusals.specs.declared.Refusal.TheVariants.{UnknownKind, ReservedField, BitOutOfSequence, UndrivenOperand}
 use Rattle.refusals.specs.Refusals.{first_of, slot_by_slot, Verdict}
-use Rattle.checking.specs.Checking.{unknown_kind, reserved_field, follows, out_of_sequence, bit_out_of_sequence, undriven, undriven_field, kind_stage, field_stage, bit_stage, kind_stages, field_stages, bit_stages, operand_stages, record_stages, record_group, gate_count}
-use Rattle.refusals.proofs.Stages.{first-refuses, slots-more, slots-refused}
+use Rattle.checking.specs.Checking.{unknown_kind, reserved_field, out_of_sequence, bit_out_of_sequence, undriven, undriven_field, kind_stage, field_stage, bit_stage, kind_stages, field_stages, bit_stages, operand_stages, record_stages, record_group, gate_count}
+use Rattle.refusals.proofs.Stages.{first-refuses, slots-none, slots-more, slots-refused}
 use Rattle.checking.proofs.Groups.{fields-driven, kind-exactly, field-exactly, bit-exactly, operand-exactly, first_field, second-field, third-field, kind-decides, field-decides, bit-decides, operands-decide}
 
 -- an operand that names a slot past the last record, and one that names a record
 module _ (t : List ℕ) (d : Driver) (s : Slot) (q : d ≡ driven.Cell s) where
-  pub undriven-past : length t / 16 ≤ s.0 → true ≡ undriven (records_of t) d
-  undriven-past h = rw (q, records-length t, le-ltb s.0 (length t / 16) h)
+  pub undriven-past : length t / 16 ≤ s.0 → leb (length t / 16) s.0 ≡ undriven (records_of t) d
+  undriven-past h = rw (q, records-length t, le-ltb s.0 (length t / 16) h, le-leb (length t / 16) s.0 h)
 
-  pub undriven-kind : s.0 < length t / 16 → (k : ℕ) → k ≡ (record_at t s.0).kind → eqb k 2 ≡ undriven (records_of t) d
-  undriven-kind h k f = rw (q, records-length t, lt-ltb s.0 (length t / 16) h, f, records-at t s.0 h)
+  pub undriven-kind : s.0 < length t / 16 → (k : ℕ) → k ≡ (record_at t s.0).kind → (b : Bool) → b ≡ eqb k 2 → b ≡ undriven (records_of t) d
+  undriven-kind h k f b g = rw (q, records-length t, lt-ltb s.0 (length t / 16) h, g, f, records-at t s.0 h)
 
--- the tests that look no further where they are decided
-module _ (s : ℕ) (p r : Record) where
-  pub bit-first : r.bit ≡ 0 → false ≡ out_of_sequence s p r
-  unfolding out_of_sequence
-  bit-first e = rw e
+-- the fields in the order in which they are tested; the first k do not fail 7
+abbrev pub fields : List Field
+fields = field.A ∷ field.B ∷ field.C ∷ []
 
-  pub bit-later : (r.bit ≡ 0 → ⊥) → (k : Kind) → k ≡ kind_of r.kind → (w : Bool) → w ≡ follows p r
-      → k.one_bit || (eqb s 0 || not w) ≡ out_of_sequence s p r
-  unfolding out_of_sequence
-  bit-later d k k-is w w-is = rw (ne_eqb r.bit 0 d, ← k-is, ← w-is)
-
-module _ (rs : List Record) (r : Record) where
-  module _ (f : ℕ) (b : Bool) (b-is : b ≡ is_operand r f) where
-    pub field-operand : b ≡ true → (k : ℕ) → k ≡ field_of r f → (d : Driver) → d ≡ driver (net_at k) → (x : Bool) → x ≡ undriven rs d → x ≡ undriven_field rs r f
-    unfolding undriven_field
-    field-operand e k k-is d d-is x x-is = rw (← b-is, e, ← k-is, ← d-is) x-is
-
-    pub field-other : b ≡ false → false ≡ undriven_field rs r f
-    unfolding undriven_field
-    field-other e = rw (← b-is, e)
+abbrev pub Driven : List Record → Record → ℕ → Type 0
+Driven rs r k =
+    (1 ≤ k → undriven_field rs r 1 ≡ false) × ((2 ≤ k → undriven_field rs r 2 ≡ false) × (3 ≤ k → undriven_field rs r 3 ≡ false))
 
 -- the groups of a record: the operands field by field, then 4, 5 and 6, behind which the operands are left
 module _ (t : List ℕ) (s : Slot) (h : s.0 < length t / 16) (r : Record) (q : r ≡ record_at t s.0) where
@@ -67,25 +53,21 @@ module _ (t : List ℕ) (s : Slot) (h : s.0 < length t / 16) (r : Record) (q : r
   here = records-at t s.0 h ∙ sym q
 
   -- the operands, field by field
-  tested : (f : ℕ) (x b : Bool) → x ≡ undriven_field rs r f → x ≡ b → undriven_field rs (record_in rs s.0) f ≡ b
-  tested f x b x-is e = ap (λ (q : Record). undriven_field rs q f) here ∙ sym x-is ∙ e
+  tested : (f : ℕ) (b : Bool) → undriven_field rs r f ≡ b → undriven_field rs (record_in rs s.0) f ≡ b
+  tested f b e = ap (λ (q : Record). undriven_field rs q f) here ∙ e
 
-  module _ (x : Bool) (x-is : x ≡ undriven_field (records_of t) r 1) where
-    pub refuses-a : x ≡ true → Err (UndrivenOperand s field.A) ≡ first_of (operand_stages (records_of t) s.0)
-    refuses-a e = sym (first_field rs s.0 (tested 1 x true x-is e))
+  pub field-refuses : (k : ℕ) → k < 3 → Driven (records_of t) r k → (x : Bool) → x ≡ undriven_field (records_of t) r (field_number (get_or fields k field.A)) → x ≡ true
+      → Err (UndrivenOperand s (get_or fields k field.A)) ≡ first_of (operand_stages (records_of t) s.0)
+  field-refuses zero l d x x-is e = sym (first_field rs s.0 (tested 1 true (sym x-is ∙ e)))
+  field-refuses (suc zero) l d x x-is e = sym (second-field rs s.0 (tested 1 false (d.0 (omega arith))) (tested 2 true (sym x-is ∙ e)))
+  field-refuses (suc (suc zero)) l d x x-is e =
+      sym (third-field rs s.0 (tested 1 false (d.0 (omega arith))) (tested 2 false (d.1.0 (omega arith))) (tested 3 true (sym x-is ∙ e)))
+  field-refuses (suc (suc (suc k))) l d x x-is e = absurd (omega arith)
 
-    module _ (x-no : x ≡ false) (y : Bool) (y-is : y ≡ undriven_field (records_of t) r 2) where
-      pub refuses-b : y ≡ true → Err (UndrivenOperand s field.B) ≡ first_of (operand_stages (records_of t) s.0)
-      refuses-b e = sym (second-field rs s.0 (tested 1 x false x-is x-no) (tested 2 y true y-is e))
-
-      module _ (y-no : y ≡ false) (z : Bool) (z-is : z ≡ undriven_field (records_of t) r 3) where
-        pub refuses-c : z ≡ true → Err (UndrivenOperand s field.C) ≡ first_of (operand_stages (records_of t) s.0)
-        refuses-c e = sym (third-field rs s.0 (tested 1 x false x-is x-no) (tested 2 y false y-is y-no) (tested 3 z true z-is e))
-
-        pub all-driven : z ≡ false → Ok tt ≡ first_of (operand_stages (records_of t) s.0)
-        all-driven e =
-            sym ((operand-exactly rs s.0).1
-            (fields-driven rs (record_in rs s.0) (tested 1 x false x-is x-no) (tested 2 y false y-is y-no) (tested 3 z false z-is e)))
+  pub all-driven : (k : ℕ) → 3 ≤ k → Driven (records_of t) r k → Ok tt ≡ first_of (operand_stages (records_of t) s.0)
+  all-driven k l d =
+      sym ((operand-exactly rs s.0).1
+      (fields-driven rs (record_in rs s.0) (tested 1 false (d.0 (omega arith))) (tested 2 false (d.1.0 (omega arith))) (tested 3 false (d.1.1 (omega arith)))))
 
   module _ (x : Bool) (x-is : x ≡ unknown_kind r) where
     pub refuses-4 : x ≡ true → Err (UnknownKind s) ≡ first_of (record_stages (records_of t) s.0)
@@ -155,3 +137,14 @@ module _ (t : List ℕ) (s sum : ℕ) (g : Counted t s sum) where
     omega (arith, g.0, gates-one k, ap (λ (x : Kind). x.gates) f),
     rw (add-one s, count-more) (ap₂ ◌+◌ g.1 (ap (λ (x : Kind). x.gates) (f ∙ ap kind_of e))),
   )
+
+-- what the functions of the code cite
+pub ruleset undriven_steps = (undriven-past, undriven-kind)
+
+pub ruleset operand_steps = (all-driven)
+
+pub ruleset record_steps = (refuses-4, refuses-5, refuses-6, operands-left)
+
+pub ruleset records_steps = (slots-none, decided, passed, all-passed)
+
+pub ruleset count_steps = (counts-none, counts-more, counts_all, gates-one)

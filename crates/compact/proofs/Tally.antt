@@ -2,7 +2,7 @@
 use mathlib.Core.Path.{◌≡◌, refl, sym, ap, ◌∙◌, subst}
 use mathlib.Core.Bool.{Bool, true, false, cond, not}
 use mathlib.Core.List.{List, [], ◌∷◌, ◌++◌}
-use Prim.Native.Nat.{ℕ, zero, suc, ◌+◌, ◌*◌, ◌/◌, ◌%◌, ◌<◌, ◌≤◌}
+use Prim.Native.Nat.{ℕ, zero, suc, ◌+◌, ◌*◌, ◌/◌, ◌<◌, ◌≤◌}
 use native.Mathlib.Omega.{arith}
 use native.Mathlib.Decide.{dec_lt}
 use lib.Dec.{eqb}
@@ -103,10 +103,6 @@ half : (k : ℕ) (b : Bool) → (2 * k + cond b 1 0) / 2 ≡ k
 half k true = omega arith
 half k false = omega arith
 
-odd : (k : ℕ) (b : Bool) → not (eqb ((2 * k + cond b 1 0) % 2) 0) ≡ b
-odd k true = ap (λ (v : ℕ). not (eqb v 0)) (let e : (2 * k + 1) % 2 ≡ 1 = omega arith in e)
-odd k false = ap (λ (v : ℕ). not (eqb v 0)) (let e : (2 * k + 0) % 2 ≡ 0 = omega arith in e)
-
 module _ (n total : ℕ) (ws : List ℕ) (g : Tallied n total ws) where
   module _ (s : ℕ) (l : s < n) (w : ℕ) (e : w ≡ get_or ws (order_at + s) 0) where
     pub tally-read : w / 2 ≡ kept_in n ws s
@@ -114,9 +110,6 @@ module _ (n total : ℕ) (ws : List ℕ) (g : Tallied n total ws) where
 
     pub tally-few : w / 2 ≤ n
     tally-few = omega (arith, tally-read, kept-few n ws s)
-
-    pub kept_read : not (eqb (w % 2) 0) ≡ kept_at n ws s
-    kept_read = ap (λ (v : ℕ). not (eqb (v % 2) 0)) (e ∙ g.each s l) ∙ odd (tally_in n ws s) (kept_at n ws s)
 
   pub all-is-count : total ≡ kept_in n ws n
   all-is-count = g.all ∙ tallied-count n ws n

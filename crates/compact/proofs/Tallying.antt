@@ -1,6 +1,6 @@
 -- The loop of `tally_kept`, over the words. Assumes nothing.
 use mathlib.Core.Path.{◌≡◌, refl, sym, ap, ap₂, ◌∙◌, subst}
-use mathlib.Core.Bool.{Bool, cond}
+use mathlib.Core.Bool.{Bool, true, false, cond}
 use mathlib.Core.List.{List}
 use mathlib.Core.Logic.{inl}
 use Prim.Native.Nat.{ℕ, ◌+◌, ◌*◌, ◌<◌, ◌≤◌}
@@ -9,6 +9,7 @@ use native.Mathlib.Numerals.{add-one}
 use native.Mathlib.Decide.{dec_lt}
 use lib.ListN.{length, get_or, set}
 use lib.Seq.{get_or-set_same, get_or-set_other}
+use Rattle.std.specs.Int.{from_bool}
 use Rattle.cell.specs.declared.Record.{Record}
 use Rattle.netlist.specs.inner.Areas.{records_in, marks_in, Within, visited_at, order_at, replaced_at}
 use Rattle.netlist.specs.Netlist.{netlist_of}
@@ -34,6 +35,10 @@ module _ (n : ℕ) (few : n ≤ 1024) (ws ws' : List ℕ) (frame : Within order_
   same_word : (s : ℕ) → tally_word n ws' s ≡ tally_word n ws s
   same_word s = ap₂ (λ (t : ℕ) (b : Bool). 2 * t + cond b 1 0) (same-tally s) (same_kept s)
 
+from-cond : (b : Bool) → from_bool b ≡ cond b 1 0
+from-cond true = refl
+from-cond false = refl
+
 -- slot after slot
 pub record Tallying (n : ℕ) (ws₀ ws : List ℕ) (t s : ℕ) : Type 0 where
   pub few : n ≤ 1024
@@ -55,13 +60,13 @@ tallying-none n ws few long = record {
 }
 
 module _ (n : ℕ) (ws₀ ws : List ℕ) (t s : ℕ) (g : Tallying n ws₀ ws t s) where
-  pub tallying-more : s < n → (b : Bool) → b ≡ kept_at n ws s → (k : ℕ) → k ≡ cond b 1 0 → (ws' : List ℕ) → ws' ≡ set ws (order_at + s) (2 * t + k) → Tallying n ws₀ ws' (t + k) (s + 1)
+  pub tallying-more : s < n → (b : Bool) → b ≡ kept_at n ws s → (k : ℕ) → k ≡ from_bool b → (ws' : List ℕ) → ws' ≡ set ws (order_at + s) (2 * t + k) → Tallying n ws₀ ws' (t + k) (s + 1)
   unfolding tally
   tallying-more l b e k f ws' h = record {
     few = g.few;
     long = g.long;
     number = rw (add-one s) (ap₂ ◌+◌ g.number kept_here);
-    most = omega (arith, g.most, f, at_most_one b);
+    most = omega (arith, g.most, f, from-cond b, at_most_one b);
     done = λ u m. ap (λ (vs : List ℕ). get_or vs (order_at + u) 0) h ∙ go u m (dec_lt u s);
     frame =
         let few : n ≤ 1024 = g.few in
@@ -70,7 +75,7 @@ module _ (n : ℕ) (ws₀ ws : List ℕ) (t s : ℕ) (g : Tallying n ws₀ ws t 
   }
     where
       kept_here : k ≡ cond (kept_at n ws₀ s) 1 0
-      kept_here = f ∙ ap (λ (c : Bool). cond c 1 0) (e ∙ same_kept n g.few ws₀ ws g.frame s)
+      kept_here = f ∙ from-cond b ∙ ap (λ (c : Bool). cond c 1 0) (e ∙ same_kept n g.few ws₀ ws g.frame s)
 
       here : get_or (set ws (order_at + s) (2 * t + k)) (order_at + s) 0 ≡ tally_word n ws₀ s
       here =

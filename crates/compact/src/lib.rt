@@ -54,11 +54,11 @@ fn is_marked(work: &[u32], n: u32, s: Slot) -> bool
     ensures { result ≡ kept_at n work.now s.0 }
 {
     let start = cell_order::start_of(work, n, s);
-    basics::get_or(work, area::VISITED + (start as usize), 0) != 0
+    area::VISITED.get(work, Slot(start)) != 0
 }
 
 // Goes over the slots once and keeps the tally of those that are kept. A slot's word is twice the tally before it, and one more if it is kept
-// itself. The tally behind the last slot is handed back.
+// itself: one word for both, so each is a look-up and no area is added. The tally behind the last slot is handed back.
 fn tally_kept(work: &mut [u32], n: u32) -> u32
     requires in_bounds { 16384 ≤ length work.old }
     requires n_bound { n ≤ 1024 }
@@ -66,9 +66,9 @@ fn tally_kept(work: &mut [u32], n: u32) -> u32
 {
     let mut tally: u32 = 0;
     for s in 0..n {
-        let kept = basics::pick(is_marked(work, n, Slot(s)), 1, 0);
+        let kept = u32::from(is_marked(work, n, Slot(s)));
         let next = tally + kept;
-        basics::put(work, area::ORDER + (s as usize), 2 * tally + kept);
+        area::ORDER.put(work, Slot(s), 2 * tally + kept);
         tally = next;
     }
     tally
@@ -84,57 +84,64 @@ pub fn keep(work: &mut [u32], n: u32) -> u32
     tally_kept(work, n)
 }
 
-// How many slots before slot x are kept, looked up: its new number, if it is kept itself. From slot n on it is `total`, all that are kept.
-fn tally_at(work: &[u32], n: u32, total: u32, x: Slot) -> u32
-    requires { Tallied n total work.now }
-    ensures value { result ≡ kept_in n work.now x.0 }
-    ensures upper_bound { result ≤ n }
-{
-    if x.0 < n {
-        return basics::get_or(work, area::ORDER + (x.0 as usize), 0) / 2;
+// The first n slots, `total` of them kept; the words hold the tally before each.
+#[derive(Clone, Copy)]
+struct Kept<'a> {
+    work: &'a [u32],
+    n: u32,
+    total: u32,
+    ghost tallied: { Tallied n total work.now },
+}
+
+impl<'a> Kept<'a> {
+    // How many slots before slot x are kept, looked up: its new number, if it is kept itself. From slot n on it is `total`, all that are kept.
+    fn before(&self, x: Slot) -> u32
+        ensures value { result ≡ kept_in self.now.n self.now.work.now x.0 }
+        ensures upper_bound { result ≤ self.now.n }
+    {
+        // Not by `get_or`: no bound of n is asked, so twice the total need not fit.
+        if x.0 < self.n {
+            return area::ORDER.get(self.work, x) / 2;
+        }
+        self.total
     }
-    total
-}
 
-// A net under its new number.
-fn net_map(work: &[u32], n: u32, total: u32, x: Net) -> Net
-    requires { Tallied n total work.now }
-    ensures { result ≡ renumbered_in n work.now x }
-{
-    match x.as_cell_index() {
-        Driver::Const(_) => x,
-        Driver::Cell(s) => Net::from_cell_index(Slot(tally_at(work, n, total, s))),
+    // A net under its new number.
+    fn net(&self, x: Net) -> Net
+        ensures { result ≡ renumbered_in self.now.n self.now.work.now x }
+    {
+        match x.as_cell_index() {
+            Driver::Const(_) => x,
+            Driver::Cell(s) => Net::from_cell_index(Slot(self.before(s))),
+        }
     }
-}
 
-// Whether a slot is kept, by its word.
-fn is_kept(work: &[u32], n: u32, total: u32, s: Slot) -> bool
-    requires tallied { Tallied n total work.now }
-    requires s_lt_n { s.0 < n }
-    ensures { result ≡ kept_at n work.now s.0 }
-{
-    basics::get_or(work, area::ORDER + (s.0 as usize), 0) % 2 != 0
-}
+    // Whether a slot is kept, by its word.
+    fn has(&self, s: Slot) -> bool
+        requires { s.0 < self.now.n }
+        ensures { result ≡ kept_at self.now.n self.now.work.now s.0 }
+    {
+        area::ORDER.get(self.work, s) % 2 != 0
+    }
 
-// A record with its operands under their new numbers.
-fn renumbered_record(work: &[u32], n: u32, total: u32, r: Record) -> Record
-    requires { Tallied n total work.now }
-    ensures { result ≡ renamed_fields (renumbered_in n work.now) r }
-{
-    fields::renamed(r, |x| net_map(work, n, total, x))
-}
+    // A record with its operands under their new numbers.
+    fn renumbered(&self, r: Record) -> Record
+        ensures { result ≡ renamed_fields (renumbered_in self.now.n self.now.work.now) r }
+    {
+        fields::renamed(r, |x| self.net(x))
+    }
 
-// Writes the record of a slot, if it is kept, under its new number.
-fn copy_kept(work: &[u32], n: u32, total: u32, s: Slot, reply: &mut [u8])
-    requires tallied { Tallied n total work.now }
-    requires s_lt_n { s.0 < n }
-    requires total_in_bounds { total * 16 ≤ length reply.old }
-    ensures { reply.new ≡ sets reply.old (kept_in n work.now s.0 * 16) (kept_bytes n work.now s.0) }
-{
-    if is_kept(work, n, total, s) {
-        let own = fields::plain(netlist::record_in(work, s));
-        let to = Slot(tally_at(work, n, total, s));
-        cell::write_record(reply, to, renumbered_record(work, n, total, own));
+    // Writes the record of a slot, if it is kept, under its new number.
+    fn copy(&self, s: Slot, reply: &mut [u8])
+        requires s_lt_n { s.0 < self.now.n }
+        requires total_in_bounds { self.now.total * 16 ≤ length reply.old }
+        ensures { reply.new ≡ sets reply.old (kept_in self.now.n self.now.work.now s.0 * 16) (kept_bytes self.now.n self.now.work.now s.0) }
+    {
+        if self.has(s) {
+            let own = fields::plain(netlist::record_in(self.work, s));
+            let to = Slot(self.before(s));
+            cell::write_record(reply, to, self.renumbered(own));
+        }
     }
 }
 
@@ -145,7 +152,8 @@ pub fn compact(work: &[u32], n: u32, total: u32, reply: &mut [u8])
     requires total_in_bounds { total * 16 ≤ length reply.old }
     ensures { reply.new ≡ sets reply.old 0 (ticket_of (encode (compact (netlist_in n work.now)))) }
 {
+    let kept = Kept { work, n, total };
     for s in 0..n {
-        copy_kept(work, n, total, Slot(s), reply);
+        kept.copy(Slot(s), reply);
     }
 }

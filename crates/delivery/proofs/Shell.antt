@@ -1,19 +1,23 @@
 -- The shell of the calls: their begin, their own step, and their end. Assumes nothing.
 use mathlib.Core.Path.{◌≡◌, refl, sym, ap, ◌∙◌}
 use mathlib.Core.List.{List, ◌++◌}
-use Prim.Native.Nat.{ℕ, ◌<◌, ◌≤◌}
+use Prim.Native.Nat.{ℕ, ◌/◌, ◌<◌, ◌≤◌}
 use native.Mathlib.Omega.{arith}
 use lib.ListN.{length, drop}
 use Rattle.std.specs.Prelude.{Ok, Err, Result}
 use Rattle.refusals.specs.declared.Refusal.{Refusal}
 use Rattle.refusals.specs.declared.Refusal.TheVariants.{ShortWork}
 use Rattle.refusals.specs.Refusals.{Stage, first_of, Verdict}
-use Rattle.checking.specs.Checking.{check_stages}
+use Rattle.cell.specs.declared.Record.{Record}
+use Rattle.cell.specs.Records.{records_of}
+use Rattle.netlist.specs.inner.Areas.{records_in, Within, visited_at}
+use Rattle.netlist.proofs.Frames.{within-drop}
+use Rattle.checking.specs.Checking.{netlist_stages, check_stages}
 use Rattle.refusals.proofs.Stages.{passes-not, later-decides, earlier-decides}
 use Rattle.calls.specs.Work.{cleared}
 use Rattle.calls.specs.Answers.{answer_by}
 use Rattle.calls.specs.Calls.{reply_after}
-use Rattle.delivery.specs.inner.Delivery.{Decides, Passed, Begins, Called}
+use Rattle.delivery.specs.inner.Delivery.{Decides, Passed, Loaded, Begins, Called}
 use Rattle.delivery.proofs.Work.{cleared_by}
 use Rattle.delivery.proofs.Deciding.{short-refused, ticket-passed}
 
@@ -33,6 +37,19 @@ begins-long t ws ws' v v-is kept same h = record {
 
 pub begins-passed : (t ws ws' : List ℕ) (v : Verdict) → Begins t ws ws' v → v ≡ Ok tt → Passed t ws'
 begins-passed t ws ws' v b e = b.pass e
+
+-- what `load` tells of a ticket that passed
+pub passed-loads : (t : List ℕ) (n : ℕ) (ws₀ ws : List ℕ) → Passed t ws₀ → n ≡ length t / 16 → records_in n ws ≡ records_of t → length ws ≡ length ws₀
+    → Loaded n ws
+passed-loads t n ws₀ ws p n-is loaded same =
+    let h : 16384 ≤ length ws₀ = p.long in
+    let few : length t / 16 ≤ 512 = p.few in
+    record { long = omega arith; few = omega arith; pass = ap (λ (rs : List Record). first_of (netlist_stages rs)) loaded ∙ p.pass }
+
+pub load-decides : {A : Type 0} (answer : Verdict → A) (own : List Stage) (bytes ws₀ ws ws' reply reply' : List ℕ) (r : A) → Within 0 visited_at ws₀ ws
+    → Decides answer own bytes ws ws' reply reply' r → Decides answer own bytes ws₀ ws' reply reply' r
+load-decides answer own bytes ws₀ ws ws' reply reply' r frame d =
+    record { said = d.said; left = d.left; rest = d.rest ∙ within-drop 0 visited_at 16384 ws₀ ws (omega arith) frame }
 
 -- `begin` and `end` alone
 pub begins-ends : (t ws ws₁ ws₂ : List ℕ) (v : Verdict) → Begins t ws ws₁ v → ws₂ ≡ cleared ws₁ → ws₂ ≡ cleared ws

@@ -27,8 +27,9 @@ pub fn end(work: &mut [u32])
     }
 }
 
-// The shell of the calls that write a reply: their begin, their own step on a ticket that passed, and their end.
-pub fn with_work<A, F: FnOnce(&mut [u32], &mut [u8]) -> Result<A, Refusal>>(
+// The shell of the calls that write a reply: their begin; a ticket that passed loaded, and their own step on its n records; their end.
+// `ticket`, `work` and `reply` go one by one, as C lends them: a struct of them would hold two `&mut` (`netlist/src/area.rt`).
+pub fn with_work<A, F: FnOnce(&mut [u32], u32, &mut [u8]) -> Result<A, Refusal>>(
     ticket: &[u8],
     work: &mut [u32],
     reply: &mut [u8],
@@ -40,7 +41,10 @@ pub fn with_work<A, F: FnOnce(&mut [u32], &mut [u8]) -> Result<A, Refusal>>(
 {
     // A match: `?` would go past `end`, and of slices lent to a closure for `and_then` a proof would know nothing.
     let answer = match begin(ticket, work) {
-        Ok(()) => step(work, reply),
+        Ok(()) => {
+            let n = netlist::load(work, ticket);
+            step(work, n, reply)
+        }
         Err(x) => Err(x),
     };
     end(work);

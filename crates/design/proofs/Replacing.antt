@@ -20,9 +20,9 @@ use Rattle.cell.specs.declared.Cell.{Cell}
 use Rattle.cell.specs.declared.Cell.TheVariants.{Input, Output, Buf, Not, And, Or, Xor, Mux, Aig}
 use Rattle.basics.specs.Lists.{tabulate, any_of}
 use Rattle.cell.specs.Records.{cell_record}
-use Rattle.netlist.specs.inner.Areas.{Within, figures_at, replaced_at}
+use Rattle.netlist.specs.inner.Areas.{Within, words_in, figures_at, replaced_at}
 use Rattle.netlist.specs.Shape.{visit, visit_mut}
-use Rattle.netlist.proofs.Frames.{within-then, within-set, tabulate-same}
+use Rattle.netlist.proofs.Frames.{within-then, within-set, word-as, tabulate-same}
 use Rattle.design.specs.Queue.{net_in, driven_to, followed, map_net_new, eq_record, eq_cell}
 use Rattle.design.specs.inner.Words.{replaced_in}
 use Rattle.order.proofs.Words.{tabulate-set}
@@ -34,11 +34,9 @@ module _ (n : ℕ) (ws : List ℕ) (x : Net) (d : Driver) (d-is : d ≡ driver x
   step-const t e = rw (← d-is, e)
 
   module _ (s : Slot) (e : d ≡ driven.Cell s) where
-    pub step-cell : s.0 < n → (w : ℕ) → w ≡ get_or ws (replaced_at + s.0) 0 → net_at w ≡ driven_to (replaced_in n ws) x (driver x)
-    step-cell h w f = rw (← d-is, e, f) (sym (replaced-at n ws s.0 h x))
-
-    pub step_past : n ≤ s.0 → x ≡ driven_to (replaced_in n ws) x (driver x)
-    step_past h = rw (← d-is, e) (sym (replaced-past n ws s.0 x h))
+    pub step-cell : (w : ℕ) → w ≡ get_or (words_in replaced_at n ws) s.0 x.0 → net_at w ≡ driven_to (replaced_in n ws) x (driver x)
+    unfolding replaced_in
+    step-cell w f = rw (← d-is, e, f) (sym (word-as replaced_at n ws s.0 net_at x.0))
 
 -- step after step
 pub record Following (n : ℕ) (ws : List ℕ) (x y : Net) (i : ℕ) : Type 0 where
@@ -65,36 +63,18 @@ module _ (n : ℕ) (ws : List ℕ) (x y : Net) (i : ℕ) (g : Following n ws x y
     pub follows-more : b ≡ false → Following n ws x z (i + 1)
     follows-more e = record { rest = rw e at opened }
 
--- nothing replaced yet
-pub record Unchanging (n : ℕ) (ws₀ ws : List ℕ) (s : ℕ) : Type 0 where
-  pub few : n ≤ 1024
+-- the loop that has nets stand for themselves
+pub record Standing (from to : ℕ) (ws₀ ws : List ℕ) (s : ℕ) : Type 0 where
+  pub few : to ≤ 1024
   pub long : 16384 ≤ length ws₀
-  pub each : (u : ℕ) → u < s → get_or ws (replaced_at + u) 0 ≡ u + 2
-  pub frame : Within replaced_at figures_at ws₀ ws
+  pub begun : from ≤ s
+  pub each : (u : ℕ) → from ≤ u → u < s → get_or ws (replaced_at + u) 0 ≡ u + 2
+  pub frame : Within (replaced_at + from) figures_at ws₀ ws
 
-module _ (n : ℕ) (ws₀ ws : List ℕ) (s : ℕ) (g : Unchanging n ws₀ ws s) where
-  pub unchanging-more : (ws' : List ℕ) (x : Net) → s < n → x ≡ net_in s → ws' ≡ set ws (replaced_at + s) x.0 → Unchanging n ws₀ ws' (s + 1)
-  unchanging-more ws' x l x-is e =
-      let few : n ≤ 1024 = g.few in
-      let f : ws' ≡ set ws (replaced_at + s) (s + 2) = e ∙ ap (λ (y : Net). set ws (replaced_at + s) y.0) x-is in
-      subst (λ (vs : List ℕ). Unchanging n ws₀ vs (s + 1)) (sym f) (record {
-        few = g.few;
-        long = g.long;
-        each = λ u m. go u m (dec_lt u s);
-        frame = within-then replaced_at figures_at ws₀ ws (set ws (replaced_at + s) (s + 2)) g.frame (within-set replaced_at figures_at ws (replaced_at + s) (s + 2) (omega arith) (omega arith));
-      })
-    where
-      go : (u : ℕ) → u < s + 1 → Dec (u < s) → get_or (set ws (replaced_at + s) (s + 2)) (replaced_at + u) 0 ≡ u + 2
-      go u m (yes k) = get_or-set_other ws (replaced_at + s) (replaced_at + u) (s + 2) 0 (λ q. absurd (omega arith)) ∙ g.each u k
-      go u m (no k) =
-          let q : s ≡ u = omega arith in
-          let few : n ≤ 1024 = g.few in
-          let long : 16384 ≤ length ws₀ = g.long in
-          subst (λ (v : ℕ). get_or (set ws (replaced_at + s) (s + 2)) (replaced_at + v) 0 ≡ v + 2) q (get_or-set_same ws (replaced_at + s) (s + 2) 0 (omega (arith, g.frame.same)))
-
-  pub unchanging-all : n ≤ s → replaced_in n ws ≡ tabulate net_in n
-  unfolding replaced_in
-  unchanging-all h = tabulate-same (λ i. net_at (get_or ws (replaced_at + i) 0)) net_in n (λ u l. ap net_at (g.each u (omega arith)))
+-- nothing replaced yet
+pub unchanged-all : (n : ℕ) (ws : List ℕ) → ((i : ℕ) → 0 ≤ i → i < n → get_or ws (replaced_at + i) 0 ≡ i + 2) → replaced_in n ws ≡ tabulate net_in n
+unfolding replaced_in
+unchanged-all n ws h = tabulate-same (λ i. net_at (get_or ws (replaced_at + i) 0)) net_in n (λ u l. ap net_at (h u (omega arith) l))
 
 -- one net replaced
 module _ (n : ℕ) (ws ws' : List ℕ) (s : Slot) (x : Net) (e : ws' ≡ set ws (replaced_at + s.0) x.0) (few : n ≤ 1024) (l : s.0 < n) where

@@ -1,5 +1,5 @@
 // Replaced nets, a word a slot. A net that is not replaced stands for itself.
-ghost use Rattle.std.specs.Prelude.{◌≡◌, ◌≤◌, ◌<◌, length, set};
+ghost use Rattle.std.specs.Prelude.{◌≡◌, ℕ, ◌+◌, ◌≤◌, ◌<◌, length, get_or, set};
 ghost use Rattle.value.specs.Value.{driver};
 ghost use Rattle.basics.specs.Lists.{tabulate};
 ghost use Rattle.netlist.specs.inner.Areas.{store_words, Within, figures_at, replaced_at, visited_at};
@@ -8,8 +8,21 @@ ghost use Rattle.netlist.specs.inner.Fields.{renamed_fields};
 ghost use Rattle.design.specs.inner.Words.{netlist_in, replaced_in, design_in, applied_in, Applies};
 
 use cell::Record;
-use netlist::{area, fields};
+use netlist::area;
+use netlist::fields::{self, Operands};
 use value::{Driver, Net, Slot};
+
+// The nets of the slots from one up to another stand for themselves.
+pub fn stand(work: &mut [u32], from: u32, to: u32)
+    requires in_bounds { 16384 ≤ length work.old }
+    requires to_bound { to ≤ 1024 }
+    ensures own { (i : ℕ) → from ≤ i → i < to → get_or work.new (replaced_at + i) 0 ≡ i + 2 }
+    ensures within { Within (replaced_at + from) figures_at work.old work.new }
+{
+    for s in from..to {
+        area::REPLACED.put(work, Slot(s), Net::from_cell_index(Slot(s)).0);
+    }
+}
 
 // Nothing is replaced yet.
 pub fn unchanged(work: &mut [u32], n: u32)
@@ -18,13 +31,7 @@ pub fn unchanged(work: &mut [u32], n: u32)
     ensures work_after { replaced_in n work.new ≡ tabulate net_in n }
     ensures within { Within replaced_at figures_at work.old work.new }
 {
-    for s in 0..n {
-        basics::put(
-            work,
-            area::REPLACED + (s as usize),
-            Net::from_cell_index(Slot(s)).0,
-        );
-    }
+    stand(work, 0, n);
 }
 
 // Has a slot's net replaced.
@@ -35,7 +42,7 @@ pub fn replace_net(work: &mut [u32], n: u32, s: Slot, x: Net)
     ensures work_after { replaced_in n work.new ≡ set (replaced_in n work.old) s.0 x }
     ensures within { Within replaced_at figures_at work.old work.new }
 {
-    basics::put(work, area::REPLACED + (s.0 as usize), x.0);
+    area::REPLACED.put(work, s, x.0);
 }
 
 // What a net is replaced by, in one step.
@@ -44,12 +51,7 @@ fn replaced_by(work: &[u32], n: u32, x: Net) -> Net
 {
     match x.as_cell_index() {
         Driver::Const(_) => x,
-        Driver::Cell(s) => {
-            if s.0 < n {
-                return Net(basics::get_or(work, area::REPLACED + (s.0 as usize), 0));
-            }
-            x
-        }
+        Driver::Cell(s) => Net(area::REPLACED.get_or(work, n, s, x.0)),
     }
 }
 
@@ -68,7 +70,7 @@ pub fn map_net_new(work: &[u32], n: u32, x: Net) -> Net
     y
 }
 
-// Equality of records but for the bit.
+// Equality of records but for the bit: a derived `==` would compare that too.
 pub fn record_eq(x: Record, y: Record) -> bool
     ensures { result ≡ eq_record x y }
 {
@@ -85,15 +87,18 @@ pub fn replaced_record(work: &[u32], n: u32, r: Record) -> Record
 }
 
 // Writes such a record into its slot. Not by `replaced_record`: what a call has just stored byte by byte would be read back whole, and that
-// waits for the stores.
+// waits for the stores: a quarter of the time of a ticket of inputs.
 fn put_replaced(work: &mut [u32], n: u32, s: Slot, r: Record) -> Record
     ensures value { result ≡ renamed_fields (map_net_new (replaced_in n work.old)) r }
     ensures work_after { work.new ≡ store_words work.old s.0 result }
 {
-    let a = map_net_new(work, n, fields::net_a(r));
-    let b = map_net_new(work, n, fields::net_b(r));
-    let c = map_net_new(work, n, fields::net_c(r));
-    let x = fields::with_nets(r, a, b, c);
+    let Operands(a, b, c) = fields::nets(r);
+    let x = fields::with_nets(
+        r,
+        map_net_new(work, n, a),
+        map_net_new(work, n, b),
+        map_net_new(work, n, c),
+    );
     netlist::put_record(work, s, x);
     x
 }
@@ -115,6 +120,7 @@ pub fn apply(work: &mut [u32], n: u32) -> bool
     ensures value { result ≡ did_change (design_in n work.old) }
     ensures within { Within 0 visited_at work.old work.new }
 {
+    // No `any`: it would stop at the first slot that is changed.
     let mut changed = false;
     for s in 0..n {
         let more = apply_to(work, n, Slot(s));

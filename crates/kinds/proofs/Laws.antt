@@ -61,6 +61,8 @@ sort-none k n1 n2 n3 n4 n5 n6 n7 n8 n9 = go (dec_lt k 1)
         sym (get_or-eq_default sorts None
         (above 9 k (above 8 k (above 7 k (above 6 k (above 5 k (above 4 k (above 3 k (above 2 k (above 1 k one n1) n2) n3) n4) n5) n6) n7) n8) n9))
 
+pub ruleset decoding = (sort-none)
+
 -- a record adds at most one to the gate count
 gates-of : (s : Sort) → (kind_table s).gates ≤ 1
 gates-of Input = omega arith

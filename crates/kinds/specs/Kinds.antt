@@ -8,6 +8,7 @@ use Rattle.kinds.specs.declared.Sort.TheVariants.{Input, Output, Buf, Not, And, 
 use Rattle.kinds.specs.declared.Field.{Field}
 use Rattle.kinds.specs.declared.Field.TheVariants.{A, B, C}
 use Rattle.kinds.specs.declared.NoField.{NoField}
+use Rattle.kinds.specs.declared.NoSort.{NoSort}
 use Rattle.kinds.specs.declared.Kind.{Kind}
 
 -- the sorts of cells by kind number, from 0 on, and back; no other number is a kind
@@ -16,6 +17,10 @@ sorts = None ∷ Some Input ∷ Some Output ∷ Some Buf ∷ Some Not ∷ Some A
 
 unfoldable pub sort_of : ℕ → Option Sort
 sort_of k = get_or sorts k None
+
+-- a number decodes to its sort, or is told as what is no kind
+abbrev pub DecodesSort : ℕ → Result Sort NoSort → Type 0
+DecodesSort n r = MatchResult r (λ s. sort_of n ≡ Some s) (λ e. (e.0 ≡ n) × (sort_of n ≡ None))
 
 abbrev pub is_known : ℕ → Bool
 is_known k = is_some (sort_of k)

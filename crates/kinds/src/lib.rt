@@ -3,7 +3,8 @@
 #![tactic(auto)]
 
 ghost use Rattle.std.specs.Prelude.{◌≡◌, not, eqb};
-ghost use Rattle.kinds.specs.Kinds.{sort_of, is_known, row_of, kind_table, kind_of, field_number, DecodesField, use_of, is_operand_use, is_used, commutes, is_source_sort};
+ghost use Rattle.kinds.specs.declared.Sort.TheVariants.{Output};
+ghost use Rattle.kinds.specs.Kinds.{sort_of, DecodesSort, number_of, is_known, row_of, kind_table, kind_of, field_number, DecodesField, use_of, is_operand_use, is_used, commutes, is_source_sort};
 
 // What a kind keeps in a field: nothing (the field is 0), a label, or an operand, which is a net.
 #[derive(Clone, Copy, PartialEq, Eq)]
@@ -13,7 +14,7 @@ pub enum Use {
     Operand,
 }
 
-// The sorts of cells. The number is the byte of the kind in a record.
+// The sorts of cells. The number is the byte of the kind in a record; it is had by `as`, since a discriminant is one.
 #[derive(Clone, Copy, PartialEq, Eq)]
 pub enum Sort {
     Input = 1,
@@ -25,6 +26,32 @@ pub enum Sort {
     Xor = 7,
     Mux = 8,
     Aig = 9,
+}
+
+// A byte that is no kind.
+#[derive(Clone, Copy, Debug, PartialEq, Eq)]
+pub struct NoSort(pub u8);
+
+impl TryFrom<u8> for Sort {
+    type Error = NoSort;
+
+    ghost try_from_gives = { DecodesSort };
+
+    #[tactic(auto, using(crate::proofs::Laws::decoding), unfolding(crate::specs::Kinds::sort_of))]
+    fn try_from(kind: u8) -> Result<Sort, NoSort> {
+        match kind {
+            1 => Ok(Sort::Input),
+            2 => Ok(Sort::Output),
+            3 => Ok(Sort::Buf),
+            4 => Ok(Sort::Not),
+            5 => Ok(Sort::And),
+            6 => Ok(Sort::Or),
+            7 => Ok(Sort::Xor),
+            8 => Ok(Sort::Mux),
+            9 => Ok(Sort::Aig),
+            _ => Err(NoSort(kind)),
+        }
+    }
 }
 
 // The fields of a record. The number is the one that refusal 7 gives.
@@ -69,24 +96,7 @@ pub struct Kind {
     pub gates: u32,
 }
 
-// None for a byte that is no kind.
-pub fn sort_of(kind: u8) -> Option<Sort>
-    ensures { result ≡ sort_of kind }
-{
-    match kind {
-        1 => Some(Sort::Input),
-        2 => Some(Sort::Output),
-        3 => Some(Sort::Buf),
-        4 => Some(Sort::Not),
-        5 => Some(Sort::And),
-        6 => Some(Sort::Or),
-        7 => Some(Sort::Xor),
-        8 => Some(Sort::Mux),
-        9 => Some(Sort::Aig),
-        _ => None,
-    }
-}
-
+// By position, so that the table below has a line for each kind.
 fn row(a: Use, b: Use, c: Use, flags: u8, one_bit: bool, common_a: bool, gates: u32) -> Kind
     ensures { result ≡ row_of a b c flags one_bit common_a gates }
 {
@@ -119,12 +129,13 @@ fn kind_table(s: Sort) -> Kind
 }
 
 // The row of a kind; what is no kind uses nothing. No Option: those who read a row have to read one for any byte.
+#[tactic(auto, unfolding(crate::specs::Kinds::kind_of))]
 pub fn kind_of(kind: u8) -> Kind
     ensures { result ≡ kind_of kind }
 {
-    match sort_of(kind) {
-        Some(s) => kind_table(s),
-        None => row(Use::Unused, Use::Unused, Use::Unused, 0, false, false, 0),
+    match Sort::try_from(kind) {
+        Ok(s) => kind_table(s),
+        Err(_) => row(Use::Unused, Use::Unused, Use::Unused, 0, false, false, 0),
     }
 }
 
@@ -142,6 +153,17 @@ impl Kind {
     }
 }
 
+// The use of a field by its number, for who has no `Field`: that alone would be a narrower parameter; what names no field is unused.
+#[tactic(auto, unfolding(crate::specs::Kinds::use_of))]
+pub fn use_of(k: Kind, f: u32) -> Use
+    ensures { result ≡ use_of k f }
+{
+    match Field::try_from(f) {
+        Ok(f) => k.use_of(f),
+        Err(_) => Use::Unused,
+    }
+}
+
 impl Use {
     pub fn is_operand(self) -> bool
         ensures { result ≡ is_operand_use self }
@@ -152,39 +174,52 @@ impl Use {
 
 // Tests of the table by ranges of kind numbers: they do not branch on the kind, which is hard to predict. (A single `2 | 5..=9` would, in
 // a choice between two numbers.)
+#[tactic(auto, using(crate::proofs::Tests::tests))]
 pub fn is_known(kind: u8) -> bool
     ensures { result ≡ is_known kind }
 {
     matches!(kind, 1..=9)
 }
 
-// Whether field a, b or c holds a net.
+// Whether field a, b or c holds a net. Three functions, as `netlist::fields` asks for each field alone; by `Field` the three ranges would be its
+// arms, no shorter.
+#[tactic(auto, using(crate::proofs::Tests::tests))]
 pub fn net_in_a(kind: u8) -> bool
     ensures { result ≡ is_operand_use (kind_of kind).a }
 {
     matches!(kind, 2..=9)
 }
 
+#[tactic(auto, using(crate::proofs::Tests::tests))]
 pub fn net_in_b(kind: u8) -> bool
     ensures { result ≡ is_operand_use (kind_of kind).b }
 {
     matches!(kind, 5..=9)
 }
 
+#[tactic(auto, using(crate::proofs::Tests::tests))]
 pub fn net_in_c(kind: u8) -> bool
     ensures { result ≡ is_operand_use (kind_of kind).c }
 {
     kind == Sort::Mux as u8
 }
 
+pub fn is_output(kind: u8) -> bool
+    ensures { result ≡ eqb kind (number_of Output) }
+{
+    kind == Sort::Output as u8
+}
+
 // Whether field b holds anything.
+#[tactic(auto, using(crate::proofs::Tests::tests))]
 pub fn uses_b(kind: u8) -> bool
     ensures { result ≡ is_used (kind_of kind).b }
 {
-    kind == Sort::Output as u8 || matches!(kind, 5..=9)
+    is_output(kind) || matches!(kind, 5..=9)
 }
 
 // Whether a flag may be set.
+#[tactic(auto, using(crate::proofs::Tests::tests))]
 pub fn has_flags(kind: u8) -> bool
     ensures { result ≡ not (eqb (kind_of kind).flags 0) }
 {
@@ -192,6 +227,7 @@ pub fn has_flags(kind: u8) -> bool
 }
 
 // Whether operands a and b may be exchanged.
+#[tactic(auto, using(crate::proofs::Tests::tests))]
 pub fn operands_commute(kind: u8) -> bool
     ensures { result ≡ commutes (sort_of kind) }
 {
@@ -199,6 +235,7 @@ pub fn operands_commute(kind: u8) -> bool
 }
 
 // Whether the level of the cell is given.
+#[tactic(auto, using(crate::proofs::Tests::tests))]
 pub fn is_source(kind: u8) -> bool
     ensures { result ≡ is_source_sort (sort_of kind) }
 {

@@ -9,7 +9,6 @@ use Rattle.logic.specs.Levels.{not_level, and_level, or_level, xor_level, mux_le
 use Rattle.value.specs.declared.Net.{Net}
 use Rattle.value.specs.declared.Slot.{Slot}
 use Rattle.value.specs.declared.ControlNet.{ControlNet}
-use Rattle.value.specs.declared.ControlNet.TheVariants.{Pos, Neg}
 use Rattle.value.specs.declared.Driver.{Driver}
 use Rattle.value.specs.declared.Driver.TheVariants as driven
 use Rattle.value.specs.Value.{driver}
@@ -25,13 +24,6 @@ module _ (ls : List Trit) (x : Net) (d : Driver) (d-is : d ≡ driver x) (r : Tr
   pub net-cell : (s : Slot) → d ≡ driven.Cell s → r ≡ get_or ls s.0 Undef → r ≡ net_level ls x
   unfolding net_level
   net-cell s e f = f ∙ sym (ap (driven_level ls) (sym d-is ∙ e))
-
-module _ (v : Net → Trit) (c : ControlNet) (x : Net) where
-  pub control-pos : c ≡ Pos x → (r : Trit) → r ≡ v x → r ≡ control_level v c
-  control-pos e r f = rw e f
-
-  pub control-neg : c ≡ Neg x → (a : Trit) → a ≡ v x → (r : Trit) → r ≡ not_level a → r ≡ control_level v c
-  control-neg e a f r g = rw e (g ∙ ap not_level f)
 
 module _ (v : Net → Trit) (own : Trit) (c : Cell) where
   pub input-level : (l : ℕ) → c ≡ Input l → own ≡ cell_level v own c

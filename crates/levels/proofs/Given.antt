@@ -8,7 +8,8 @@ use native.Mathlib.Omega.{arith}
 use native.Mathlib.Numerals.{add-one}
 use native.Mathlib.Decide.{dec_lt}
 use lib.Dec.{eqb}
-use lib.ListN.{length, get_or, set, drop, get_or-eq_default}
+use mir.Val.{bool_byte}
+use lib.ListN.{length, get_or, set, drop}
 use lib.Seq.{get_or-set_same, get_or-set_other, get_or-drop, ext_get_or}
 use Rattle.logic.specs.declared.Trit.{Trit}
 use Rattle.logic.specs.declared.Trit.TheVariants.{Undef}
@@ -28,19 +29,6 @@ use Rattle.levels.specs.Fold.{cells_in, levels_at, input_at, placed_level, fold_
 use Rattle.netlist.proofs.Cells.{cells-length, cell_at, input-kind}
 use Rattle.levels.proofs.Slots.{of-kind, of-another}
 use Rattle.levels.proofs.Levels.{levels-length, level-read, put-within}
-
--- a byte of the stimulus; past its end the level is undefined
-byte-any : (bs : List ℕ) (k d e : ℕ) → k < length bs → get_or bs k d ≡ get_or bs k e
-byte-any [] k d e l = absurd (omega arith)
-byte-any (b ∷ bs) zero d e l = refl
-byte-any (b ∷ bs) (suc k) d e l = byte-any bs k d e (omega arith)
-
-pub stimulus-inside : (bs : List ℕ) (k : ℕ) → k < length bs → (b : ℕ) → b ≡ get_or bs k 0 → (t : Trit) → t ≡ level_of b → t ≡ level_of (get_or bs k 2)
-stimulus-inside bs k l b e t f = f ∙ ap level_of (e ∙ byte-any bs k 0 2 l)
-
-pub stimulus-past : (bs : List ℕ) (k : ℕ) → length bs ≤ k → Undef ≡ level_of (get_or bs k 2)
-unfolding level_of
-stimulus-past bs k h = rw (get_or-eq_default bs 2 h)
 
 -- one slot, by its kind
 module _ (ws : List ℕ) (s : ℕ) (r : Record) (r-is : r ≡ word_record ws s) (bs : List ℕ) (k : ℕ) (ws' : List ℕ) where
@@ -81,6 +69,15 @@ unfolding given_levels
 given-length [] bs = refl
 given-length (c ∷ cs) bs = ap suc (given-length cs (cond (is_input c) (drop 1 bs) bs))
 
+-- whether a byte is taken, as a number
+byte-is : (b : Bool) → bool_byte b ≡ cond b 1 0
+byte-is true = refl
+byte-is false = refl
+
+one-at-most : (b : Bool) → cond b 1 0 ≤ 1
+one-at-most true = omega arith
+one-at-most false = omega arith
+
 -- the loop that places the stimulus
 pub record Placing (n : ℕ) (bs ws₀ ws : List ℕ) (s k : ℕ) : Type 0 where
   pub long : 16384 ≤ length ws₀
@@ -106,17 +103,18 @@ module _ (n : ℕ) (bs ws₀ ws : List ℕ) (s k : ℕ) (g : Placing n bs ws₀ 
         ap₂ (λ (b : Bool) (i : ℕ). cond b (level_of (get_or bs i 2)) Undef) is-input g.counted
         ∙ sym (given-at (cells_in n ws₀) bs s (let q : length (cells_in n ws₀) ≡ n = cells-length n ws₀ in omega arith))
 
-    pub placing-more : (ws' : List ℕ) → ws' ≡ set ws (figures_at + s) (byte_of (placed_level ws s bs k)) → (j : ℕ) → j ≡ cond (input_at ws s) 1 0 → j ≤ 1
+    pub placing-more : (ws' : List ℕ) → ws' ≡ set ws (figures_at + s) (byte_of (placed_level ws s bs k)) → (b : Bool) → b ≡ input_at ws s → (j : ℕ) → j ≡ bool_byte b
         → Placing n bs ws₀ ws' (s + 1) (k + j)
-    placing-more ws' h j q one =
+    placing-more ws' h b y j q =
+        let one : j ≤ 1 = omega (arith, q, byte-is b, one-at-most b) in
         let t : Trit = placed_level ws s bs k in
         let z : k ≤ s = g.small in
         let long : 16384 ≤ length ws = let m : 16384 ≤ length ws₀ = g.long in omega (arith, g.frame.same) in
         subst (λ (vs : List ℕ). Placing n bs ws₀ vs (s + 1) (k + j)) (sym h) (record {
           long = g.long;
           small = omega arith;
-          counted = ap₂ ◌+◌ g.counted (q ∙ ap (λ (b : Bool). cond b 1 0) is-input)
-              ∙ sym (before_more (cells_in n ws₀) s (let y : length (cells_in n ws₀) ≡ n = cells-length n ws₀ in omega arith))
+          counted = ap₂ ◌+◌ g.counted (q ∙ byte-is b ∙ ap (λ (x : Bool). cond x 1 0) (y ∙ is-input))
+              ∙ sym (before_more (cells_in n ws₀) s (let z : length (cells_in n ws₀) ≡ n = cells-length n ws₀ in omega arith))
               ∙ ap (inputs_before (cells_in n ws₀)) (sym (add-one s));
           placed = λ u m. go u m long (dec_lt u s);
           frame = within-then figures_at mixes_at ws₀ ws (set ws (figures_at + s) (byte_of t)) g.frame (put-within ws s (byte_of t) (omega arith));

@@ -5,7 +5,7 @@ use Prim.Native.Nat.{ℕ, ◌+◌, ◌<◌, ◌≤◌}
 use native.Mathlib.Omega.{arith}
 use native.Mathlib.Numerals.{add-one}
 use native.Mathlib.Decide.{ℕ_discrete}
-use lib.ListN.{length, get_or, set, length-set, get_or-eq_default}
+use lib.ListN.{length, get_or, set, length-set}
 use lib.Seq.{get_or-set_same, get_or-set_other, set_out, ext_get_or}
 use Rattle.logic.specs.declared.Trit.{Trit}
 use Rattle.logic.specs.declared.Trit.TheVariants.{Undef}
@@ -16,7 +16,7 @@ use Rattle.cell.specs.Records.{cell_of}
 use Rattle.basics.specs.Lists.{tabulate}
 use Rattle.basics.proofs.Tables.{tabulate-length, tabulate-at}
 use Rattle.netlist.specs.inner.Areas.{word_record, words_in, Within, figures_at, mixes_at, order_at}
-use Rattle.netlist.proofs.Frames.{within_none, within-then, within-set, records-kept}
+use Rattle.netlist.proofs.Frames.{within_none, within-then, within-set, word-as, records-kept}
 use Rattle.levels.specs.Evaluate.{net_level, cell_level}
 use Rattle.levels.specs.Fold.{cells_in, levels_at, fold_in, slot_level}
 use Rattle.netlist.proofs.Cells.{cell_at}
@@ -31,11 +31,9 @@ module _ (n : ℕ) (ws : List ℕ) (s : ℕ) where
   unfolding levels_at
   level-read l = tabulate-at (λ s. level_of (get_or ws (figures_at + s) 0)) n Undef s l
 
-  pub level-inside : s < n → (w : ℕ) (t : Trit) → w ≡ get_or ws (figures_at + s) 0 → t ≡ level_of w → t ≡ get_or (levels_at n ws) s Undef
-  level-inside l w t e f = f ∙ ap level_of e ∙ sym (level-read l)
-
-  pub level-past : n ≤ s → Undef ≡ get_or (levels_at n ws) s Undef
-  level-past h = sym (get_or-eq_default (levels_at n ws) Undef (let e : length (levels_at n ws) ≡ n = levels-length n ws in omega arith))
+  pub level-word : (w : ℕ) (t : Trit) (d : ℕ) → d ≡ 2 → w ≡ get_or (words_in figures_at n ws) s d → t ≡ level_of w → t ≡ get_or (levels_at n ws) s Undef
+  unfolding levels_at level_of
+  level-word w t d u e f = f ∙ ap level_of (e ∙ ap (get_or (words_in figures_at n ws) s) u) ∙ sym (word-as figures_at n ws s level_of 2)
 
 -- a level that is written
 pub level-set : (n : ℕ) (ws : List ℕ) (s : ℕ) (t : Trit) → s < n → figures_at + n ≤ length ws → levels_at n (set ws (figures_at + s) (byte_of t)) ≡ set (levels_at n ws) s t

@@ -1,18 +1,20 @@
 -- Slots of a kind, and how many there are. Assumes nothing.
 use mathlib.Core.Path.{◌≡◌, refl, sym, ap, ap₂, ◌∙◌}
 use mathlib.Core.Bool.{Bool, true, false, cond}
-use mathlib.Core.List.{List}
+use mathlib.Core.List.{List, [], ◌∷◌}
 use Prim.Native.Nat.{ℕ, ◌+◌, ◌<◌, ◌≤◌}
 use native.Mathlib.Omega.{arith}
 use borrow.Author.Tests.{eq-eqb, ne_eqb}
 use lib.Dec.{eqb}
 use lib.ListN.{length}
-use Rattle.std.specs.Int.{from_bool}
+use lib.Seq.{ext_get_or}
+use Rattle.std.specs.List.{filter, range_with_len}
+use Rattle.std.proofs.lemmas.List.FromFn.{length-range_with_len, get_or-range_with_len}
 use Rattle.cell.specs.declared.Record.{Record}
 use Rattle.cell.specs.Records.{record_of}
 use Rattle.basics.specs.Lists.{tabulate, slots, those}
 use Rattle.basics.proofs.Tables.{tabulate-length, tabulate-at}
-use Rattle.basics.proofs.Those.{slots_same, count-more}
+use Rattle.basics.proofs.Those.{slots_same}
 use Rattle.netlist.specs.Shape.{is_input, is_output}
 use Rattle.netlist.specs.inner.Areas.{word_record, records_in}
 use Rattle.netlist.proofs.Cells.{cells-length, cell_at, input-kind, output-kind}
@@ -53,29 +55,19 @@ module _ (n : ℕ) (ws : List ℕ) where
   output-slots =
       rw (cells-length n ws) (slots_same _ _ n (λ s l. ap is_output (cell_at n ws s l) ∙ output-kind (word_record ws s))) ∙ sym (kind-slots 2)
 
-one-if : (b : Bool) → (from_bool b ≡ cond b 1 0) × (from_bool b ≤ 1)
-one-if true = (refl, omega arith)
-one-if false = (refl, omega arith)
+-- how many there are, by a filter over the slots
+filter-those : (p : ℕ → Bool) (xs : List ℕ) → filter p xs ≡ those p xs
+unfolding those
+filter-those p [] = refl
+filter-those p (x ∷ xs) = ap (λ (rest : List ℕ). cond (p x) (x ∷ rest) rest) (filter-those p xs)
 
--- the loop that counts
-pub record Counting (ws : List ℕ) (n kind s count : ℕ) : Type 0 where
-  pub few : count ≤ s
-  pub counted : count ≡ length (those (λ u. eqb (word_record ws u).kind kind) (slots s))
+range-slots : (n : ℕ) → range_with_len 0 n ≡ slots n
+range-slots n =
+    ext_get_or 0 (range_with_len 0 n) (slots n) (length-range_with_len 0 n ∙ sym (tabulate-length (λ s. s) n))
+    (λ i h. let l : i < n = omega (arith, length-range_with_len 0 n) in get_or-range_with_len 0 n i 0 l ∙ (let e : 0 + i ≡ i = omega arith in e) ∙ sym (tabulate-at (λ s. s) n 0 i l))
 
-pub counts-none : (ws : List ℕ) (n kind : ℕ) → Counting ws n kind 0 0
-unfolding tabulate those
-counts-none ws n kind = record { few = omega arith; counted = refl }
-
-module _ (ws : List ℕ) (n kind s count : ℕ) (g : Counting ws n kind s count) where
-  pub counts-more : s < n → (r : Record) → r ≡ word_record ws s → (k : ℕ) → k ≡ from_bool (eqb r.kind kind) → Counting ws n kind (s + 1) (count + k)
-  counts-more l r e k f =
-      let q : k ≡ cond (eqb (word_record ws s).kind kind) 1 0 = f ∙ (one-if (eqb r.kind kind)).0 ∙ ap (λ (x : Record). cond (eqb x.kind kind) 1 0) e in
-      record {
-        few = omega (arith, g.few, f, (one-if (eqb r.kind kind)).1);
-        counted = ap₂ ◌+◌ g.counted q ∙ sym (count-more (λ u. eqb (word_record ws u).kind kind) s);
-      }
-
-  pub counts_all : s ≤ n → n ≤ s → count ≡ length (of_kind kind (records_in n ws))
-  counts_all m h =
-      g.counted ∙ ap (λ (m : ℕ). length (those (λ u. eqb (word_record ws u).kind kind) (slots m))) (omega arith)
-      ∙ sym (ap length (kind-slots n ws kind))
+pub counted : (n kind : ℕ) (ws : List ℕ) → length (filter (λ s. eqb (word_record ws s).kind kind) (range_with_len 0 n)) ≡ length (of_kind kind (records_in n ws))
+counted n kind ws =
+    ap length (filter-those (λ s. eqb (word_record ws s).kind kind) (range_with_len 0 n)
+    ∙ ap (those (λ s. eqb (word_record ws s).kind kind)) (range-slots n)
+    ∙ sym (kind-slots n ws kind))

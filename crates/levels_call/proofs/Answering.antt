@@ -1,18 +1,19 @@
 -- The call `levels`: the stimulus, the levels written, and the stages in turn. Assumes nothing.
 use mathlib.Core.Path.{◌≡◌, refl, sym, ap, ap₂, ◌∙◌, subst}
 use mathlib.Core.List.{List, [], ◌∷◌, ◌++◌, map, append_assoc}
-use Prim.Native.Nat.{ℕ, ◌/◌, ◌<◌, ◌≤◌}
+use Prim.Native.Nat.{ℕ, ◌<◌, ◌≤◌}
 use native.Mathlib.Omega.{arith}
-use lib.ListN.{length, get_or, drop, length-map}
+use lib.ListN.{length, get_or, length-map}
 use Rattle.std.specs.Prelude.{Ok, Err, Result}
 use Rattle.logic.specs.declared.Trit.{Trit}
 use Rattle.logic.specs.declared.Trit.TheVariants.{Undef}
 use Rattle.logic.specs.Levels.{byte_of}
 use Rattle.cell.specs.declared.Cell.{Cell}
+use Rattle.cell.specs.declared.Record.{Record}
 use Rattle.cell.specs.Records.{records_of, cell_of}
-use Rattle.cell.proofs.Lists.{records-length}
+use Rattle.basics.proofs.Tables.{tabulate-length}
 use Rattle.netlist.specs.Netlist.{netlist_of}
-use Rattle.netlist.specs.inner.Areas.{records_in, Within, mixes_at, visited_at}
+use Rattle.netlist.specs.inner.Areas.{word_record, records_in, Within, mixes_at, visited_at}
 use Rattle.netlist.proofs.Frames.{within-drop, records-kept}
 use Rattle.levels.specs.Evaluate.{given_levels, output_slots}
 use Rattle.levels.specs.Fold.{cells_in, of_kind, levels_at, bit_levels, bit_outputs}
@@ -24,10 +25,10 @@ use Rattle.fold_laws.proofs.Levels.{bit-outputs}
 use Rattle.refusals.specs.declared.Refusal.{Refusal}
 use Rattle.refusals.specs.declared.Refusal.TheVariants.{ShortReply}
 use Rattle.refusals.specs.Refusals.{first_of}
-use Rattle.checking.specs.Checking.{check_stages}
+use Rattle.checking.specs.Checking.{netlist_stages, check_stages}
 use Rattle.calls.specs.Answers.{answer_by}
 use Rattle.calls.specs.Calls.{put, room, decoded, level_bytes, stimulus_stages, level_verdict}
-use Rattle.delivery.specs.inner.Delivery.{Passed, Delivers}
+use Rattle.delivery.specs.inner.Delivery.{Loaded, Delivers}
 use Rattle.delivery.proofs.Deciding.{refused-decides, passed-decides}
 use Rattle.delivery.proofs.Delivering.{delivers-none, delivers-all}
 use Rattle.levels_call.specs.inner.Levels.{written_levels, bit_bytes, level_stages, Levels}
@@ -66,7 +67,7 @@ module _ (n : ℕ) (ws bs reply : List ℕ) (count : ℕ) (e : count ≡ length 
         (g ∙ ap (put reply) (ap₂ (λ (ls : List Trit) (ss : List ℕ). map (λ s. byte_of (get_or ls s Undef)) ss) f outputs-kept ∙ sym bytes-are))
 
 -- 10 to 12
-module _ (t ws₀ : List ℕ) (p : Passed t ws₀) (stimulus reply : List ℕ) where
+module _ (t : List ℕ) (n : ℕ) (ws : List ℕ) (p : Loaded n ws) (loaded : records_in n ws ≡ records_of t) (stimulus reply : List ℕ) where
   abbrev cells : List Cell
   cells = (decoded t).cells
 
@@ -74,33 +75,33 @@ module _ (t ws₀ : List ℕ) (p : Passed t ws₀) (stimulus reply : List ℕ) w
   result = level_bytes t stimulus
 
   ranked : Ranked cells (rank (records_of t))
-  ranked = (accepted-sound (records_of t) (let few : length t / 16 ≤ 512 = p.few in omega (arith, records-length t)) p.pass).ranked
+  unfolding records_in
+  ranked =
+      let few : n ≤ 512 = p.few in
+      let count : length (records_of t) ≡ n = ap length (sym loaded) ∙ tabulate-length (word_record ws) n in
+      (accepted-sound (records_of t) (omega arith) (ap (λ (rs : List Record). first_of (netlist_stages rs)) (sym loaded) ∙ p.pass)).ranked
 
-  module _ (n : ℕ) (ws : List ℕ) (loaded : records_in n ws ≡ records_of t) (frame : Within 0 visited_at ws₀ ws) where
-    same-cells : cells_in n ws ≡ cells
-    unfolding netlist_of
-    same-cells = ap (map cell_of) loaded
+  same-cells : cells_in n ws ≡ cells
+  unfolding netlist_of
+  same-cells = ap (map cell_of) loaded
 
-    same-verdict : first_of (stimulus_stages (cells_in n ws) stimulus) ≡ first_of (stimulus_stages cells stimulus)
-    same-verdict = ap (λ (cs : List Cell). first_of (stimulus_stages cs stimulus)) same-cells
+  same-verdict : first_of (stimulus_stages (cells_in n ws) stimulus) ≡ first_of (stimulus_stages cells stimulus)
+  same-verdict = ap (λ (cs : List Cell). first_of (stimulus_stages cs stimulus)) same-cells
 
-    behind : drop 16384 ws ≡ drop 16384 ws₀
-    behind = within-drop 0 visited_at 16384 ws₀ ws (omega arith) frame
+  pub stimulus-refused : (x : Refusal) → Err x ≡ first_of (stimulus_stages (cells_in n ws) stimulus) → Levels t stimulus ws ws reply reply (Err x)
+  unfolding level_stages
+  stimulus-refused x e =
+      refused-decides (λ y. answer_by y (length result)) (stimulus_stages cells stimulus) (room reply result ∷ []) result ws ws reply (Err x) (e ∙ same-verdict) refl
+      x (Err x) refl refl
 
-    pub stimulus-refused : (x : Refusal) → Err x ≡ first_of (stimulus_stages (cells_in n ws) stimulus) → Levels t stimulus ws₀ ws reply reply (Err x)
-    unfolding level_stages
-    stimulus-refused x e =
-        refused-decides (λ y. answer_by y (length result)) (stimulus_stages cells stimulus) (room reply result ∷ []) result ws₀ ws reply (Err x) (e ∙ same-verdict) behind
-        x (Err x) refl refl
-
-    pub stimulus-passed : Ok tt ≡ first_of (stimulus_stages (cells_in n ws) stimulus) → (ws' reply' : List ℕ) (r : Result ℕ Refusal)
-        → Delivers (bit_bytes n ws stimulus) ws ws' reply reply' r → Levels t stimulus ws₀ ws' reply reply' r
-    unfolding level_stages level_bytes
-    stimulus-passed e ws' reply' r d =
-        let same : bit_bytes n ws stimulus ≡ result =
-        ap (map byte_of) (ap (λ (cs : List Cell). bit_outputs cs stimulus) same-cells ∙ bit-outputs cells (rank (records_of t)) ranked stimulus) in
-        passed-decides (λ y. answer_by y (length result)) (stimulus_stages cells stimulus) (room reply result ∷ []) result ws₀ ws reply (Ok tt) (e ∙ same-verdict) behind
-        ws' reply' r (subst (λ (b : List ℕ). Delivers b ws ws' reply reply' r) same d) refl
+  pub stimulus-passed : Ok tt ≡ first_of (stimulus_stages (cells_in n ws) stimulus) → (ws' reply' : List ℕ) (r : Result ℕ Refusal)
+      → Delivers (bit_bytes n ws stimulus) ws ws' reply reply' r → Levels t stimulus ws ws' reply reply' r
+  unfolding level_stages level_bytes
+  stimulus-passed e ws' reply' r d =
+      let same : bit_bytes n ws stimulus ≡ result =
+      ap (map byte_of) (ap (λ (cs : List Cell). bit_outputs cs stimulus) same-cells ∙ bit-outputs cells (rank (records_of t)) ranked stimulus) in
+      passed-decides (λ y. answer_by y (length result)) (stimulus_stages cells stimulus) (room reply result ∷ []) result ws ws reply (Ok tt) (e ∙ same-verdict) refl
+      ws' reply' r (subst (λ (b : List ℕ). Delivers b ws ws' reply reply' r) same d) refl
 
 -- the stages of the call: 1 to 8 first
 pub in_turn : (words : ℕ) (t stimulus reply : List ℕ) → first_of (check_stages words t ++ level_stages t stimulus reply) ≡ level_verdict words t stimulus reply

@@ -1,16 +1,17 @@
 // Levels of the outputs for a stimulus.
 #![tactic(auto)]
 
-ghost use Rattle.std.specs.Prelude.{◌≡◌, cond, ◌<◌, ◌≤◌, length, slice_index, MatchOption};
+ghost use Rattle.std.specs.Prelude.{◌≡◌, cond, ◌<◌, ◌≤◌, List, ℕ, length, slice_index, MatchOption};
 ghost use Rattle.std.specs.List.{AllWithin};
 ghost use Rattle.kinds.specs.declared.Sort.TheVariants as sort;
 ghost use Rattle.kinds.specs.Kinds.{number_of};
+ghost use Rattle.cell.specs.Records.{records_of};
 ghost use Rattle.netlist.specs.inner.Areas.{records_in};
 ghost use Rattle.levels.specs.Fold.{cells_in, of_kind};
 ghost use Rattle.refusals.specs.Refusals.{first_of};
 ghost use Rattle.calls.specs.Calls.{put, stimulus_stages, level_answer, level_reply};
 ghost use Rattle.calls.specs.Work.{cleared};
-ghost use Rattle.delivery.specs.inner.Delivery.{Passed};
+ghost use Rattle.delivery.specs.inner.Delivery.{Loaded};
 ghost use Rattle.levels_call.specs.inner.Levels.{IsLevel, output_at, put_level, written_levels, DeliversLevels, Levels};
 
 use kinds::Sort;
@@ -40,14 +41,15 @@ fn stimulus_verdict(work: &[u32], n: u32, stimulus: &[u8]) -> Result<(), Refusal
     }
 }
 
-// Writes the level of a slot that holds an output as byte k of the reply. The answer is the number of bytes written.
+// Writes the level of a slot that holds an output as byte k of the reply. The answer is the number of bytes written: with a bool the proof
+// of the loop did not close.
 fn write_at(work: &[u32], n: u32, s: Slot, reply: &mut [u8], k: u32) -> u32
     ensures value { result ≡ cond (output_at work.now s.0) 1 0 }
     ensures upper_bound { result ≤ 1 }
     ensures reply_after { reply.new ≡ put_level n work.now s.0 reply.old k }
 {
     let kind = netlist::record_in(work, s).kind;
-    if kind == Sort::Output as u8 {
+    if kinds::is_output(kind) {
         let t = levels::level_at(work, n, s);
         basics::put(reply, k as usize, u32::from(t) as u8);
         return 1;
@@ -62,6 +64,8 @@ fn write_levels(work: &[u32], n: u32, reply: &mut [u8])
     ensures { reply.new ≡ put reply.old (written_levels n work.now) }
 {
     let mut k = 0;
+    // Two counts: how many bytes are written depends on what the slots hold. By index: the loop is over the slots, so an `iter_mut` of the reply
+    // would be advanced by hand, and of what is written through it a proof knows the length alone.
     for s in 0..n {
         k += write_at(work, n, Slot(s), reply, k);
     }
@@ -82,18 +86,11 @@ fn written(work: &mut [u32], n: u32, stimulus: &[u8], reply: &mut [u8]) -> Resul
     Ok(count)
 }
 
-// 10 to 12, or the levels of the outputs, for a ticket that passed.
-fn evaluated(
-    ticket: &[u8],
-    stimulus: &[u8],
-    work: &mut [u32],
-    reply: &mut [u8],
-) -> Result<u32, Refusal>
-    requires { Passed ticket.now work.old }
-    ensures { Levels ticket.now stimulus.now work.old work.new reply.old reply.new result }
+// 10 to 12, or the levels of the outputs, for the n records of a ticket that passed.
+fn evaluated(work: &mut [u32], n: u32, stimulus: &[u8], reply: &mut [u8]) -> Result<u32, Refusal>
+    requires { Loaded n work.old }
+    ensures { (t : List ℕ) → records_in n work.old ≡ records_of t → Levels t stimulus.now work.old work.new reply.old reply.new result }
 {
-    let n = (ticket.len() / 16) as u32;
-    netlist::load(work, ticket, n);
     stimulus_verdict(work, n, stimulus)?;
     written(work, n, stimulus, reply)
 }
@@ -113,6 +110,6 @@ pub fn levels(
         ticket,
         work,
         reply,
-        |work, reply| evaluated(ticket, stimulus, work, reply),
+        |work, n, reply| evaluated(work, n, stimulus, reply),
     )
 }

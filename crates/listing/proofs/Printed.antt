@@ -1,8 +1,7 @@
 -- What is printed for each answer of rewriting. Assumes nothing.
 use Rattle.refusals.specs.Refusals.{Verdict}
-use Rattle.std.proofs.Common.{◌≡◌, sym, ap, ◌∙◌, subst, List, ◌++◌, ℕ, ◌+◌, ◌≤◌, Option, None, Some, IfSome, Result, Ok, Err, IfOk, OnOk, MatchResult, is_ok, length, take, drop, arith, length-append, take_at, length-take-le}
+use Rattle.std.proofs.Common.{◌≡◌, sym, ap, ◌∙◌, List, ◌++◌, ℕ, ◌+◌, ◌≤◌, Result, Ok, Err, length, take, drop, arith, length-append, take_at, length-take-le}
 use lib.Seq.{sets-eq}
-use Rattle.std.specs.Io.KnownBytes.{Appends}
 use Rattle.refusals.specs.declared.Refusal.{Refusal}
 use Rattle.design.specs.Queue.{find_new_cell}
 use Rattle.calls.proofs.Answers.{answered, turned_away}
@@ -54,24 +53,3 @@ module _ (words : ℕ) (t reply : List ℕ) (w : Result ℕ Refusal) (is : w ≡
   unfolding rewrite_answer printed
   refused-printed x e m text text' long p =
       shown 80 m text text' (refusal_line x) p (omega arith) ∙ sym (ap (λ (v : Verdict). printed_by v bytes) (turned_away verdict (length bytes) x (sym is ∙ e)))
-
--- ---- the text, behind what a writer held
-pub on_ok : {T E P : Type 0} (r : Result T E) → P → OnOk r P
-on_ok (Ok x) p = p
-on_ok (Err e) p = tt
-
-pub on_ok-same : {T E S F P Q : Type 0} (r : Result T E) (s : Result S F) → is_ok s ≡ is_ok r → (P → Q) → OnOk r P → OnOk s Q
-on_ok-same (Ok x) (Ok y) e f p = f p
-on_ok-same (Ok x) (Err y) e f p = tt
-on_ok-same (Err x) (Ok y) e f p = cc
-on_ok-same (Err x) (Err y) e f p = tt
-
-pub lists-printed : (known held holds : Option (List ℕ)) (words most : ℕ) (ticket reply out : List ℕ)
-    → IfSome known (λ xs. ticket ≡ take most xs) → out ≡ printed words ticket reply → Appends held holds out → IfSome known (λ xs. Appends held holds (printed words (take most xs) reply))
-lists-printed None held holds words most ticket reply out t e p = tt
-lists-printed (Some xs) held holds words most ticket reply out t e p = subst (Appends held holds) (e ∙ ap (λ (l : List ℕ). printed words l reply) t) p
-
--- what holds of an answer holds of it behind a `map_err`
-pub mapped : {T E : Type 0} (F : Type 0) (P : T → Type 0) (r : Result T E) (x : T) → MatchResult r (λ y. ◌≡◌ {A = Result T F} (Ok x) (Ok y)) (λ e. ⊥) → IfOk r P → P x
-mapped F P (Ok y) x e p = subst P (let q : y ≡ x = cc in q) p
-mapped F P (Err y) x e p = absurd e

@@ -1,12 +1,12 @@
 // What the lister does: reads a ticket, rewrites it and prints a line for each record of the result.
 #![tactic(auto)]
 
-ghost use Rattle.std.specs.Prelude.{◌≡◌, ◌≤◌, length, take, replicate, OnOk, IfOk, IfSome};
+ghost use Rattle.std.specs.Prelude.{◌≡◌, ◌≤◌, length, take, replicate, OnOk, IfSome};
 ghost use Rattle.std.specs.Io.KnownBytes.{Appends};
 ghost use Rattle.lines.specs.Lines.{lines_of};
 ghost use Rattle.text.specs.Text.{Puts};
 ghost use Rattle.listing.specs.Printed.{IsPrefixLen, printed};
-ghost use Rattle.listing.specs.Taken.{TakenFrom, TakesMost};
+ghost use Rattle.listing.specs.Taken.{TakesMost};
 ghost use Rattle.listing.specs.Failures.{OnUnread};
 
 use reader::Reader;
@@ -58,22 +58,8 @@ pub enum Failure {
     Unwritten(io::Error),
 }
 
-// Reads into a buffer, and not past it, until the input ends or the buffer is full; answers how many bytes those are.
-fn read<R: Read>(from: &mut R, buffer: &mut [u8]) -> io::Result<usize>
-    ensures inside { IfOk result (λ n. n ≤ length buffer.new) }
-    ensures bytes { IfOk result (TakenFrom (R.remaining from.old) (R.remaining from.new) buffer.new) }
-{
-    let mut done: usize = 0;
-    while done < buffer.len() {
-        match from.read(&mut buffer[done..])? {
-            0 => return Ok(done),
-            count => done += count,
-        }
-    }
-    Ok(done)
-}
-
 // Lists a ticket, with a buffer for its bytes, the words and the bytes that rewriting works in, and room for the lines.
+// Slices: `print` lends them from its fixed memory, since the lister uses no heap.
 fn print_with<R: Read, W: Write>(
     from: &mut R,
     to: &mut W,
@@ -89,7 +75,7 @@ fn print_with<R: Read, W: Write>(
         Appends (W.contents to.old) (W.contents to.new) (printed (length work.old) (take (length ticket.old) xs) reply.old))) }
     ensures unread { OnUnread result (to.new ≡ to.old) }
 {
-    let n = read(from, ticket).map_err(Failure::Unread)?;
+    let n = full_read::read_full(from, ticket).map_err(Failure::Unread)?;
     let m = tell(&ticket[..n], work, reply, text);
     to.write_all(&text[..m]).map_err(Failure::Unwritten)
 }
@@ -101,6 +87,7 @@ pub fn print<R: Read, W: Write>(from: &mut R, to: &mut W) -> Result<(), Failure>
         Appends (W.contents to.old) (W.contents to.new) (printed WORK (take MOST_READ xs) (replicate REPLY 0)))) }
     ensures unread { OnUnread result (to.new ≡ to.old) }
 {
+    // Fixed memory: the lister uses no heap.
     let mut ticket = [0; MOST_READ];
     let mut work = [0; WORK];
     let mut reply = [0; REPLY];

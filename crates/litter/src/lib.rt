@@ -2,7 +2,9 @@
 // 0, neighbours differ, and so does what a place holds from seed to seed.
 #![tactic(auto)]
 
-ghost use Rattle.std.specs.Prelude.{◌≡◌, ℕ, ◌%◌};
+ghost use Rattle.std.specs.Prelude.{◌≡◌, ◌||◌, ℕ, ◌<◌, ◌%◌, length, nat_lt, slice_get};
+ghost use Rattle.std.specs.List.{list_all, enumerate_from};
+ghost use Rattle.litter.specs.Litter.{word_at, is_left_at};
 
 // Words are 1 to RING.
 const RING: u32 = 1031;
@@ -35,50 +37,45 @@ impl Scrap for u8 {
     }
 }
 
-pub fn first(seed: u32) -> u32 {
-    seed % RING + 1
+// The word of a place.
+fn word(seed: u32, place: usize) -> u32
+    ensures { result ≡ word_at seed place }
+{
+    (seed % RING + (place % RING as usize) as u32) % RING + 1
 }
 
-// The words round the ring, without end.
-#[derive(Clone, Copy)]
-struct Words {
-    word: u32,
+pub fn first(seed: u32) -> u32
+    ensures { result ≡ word_at seed 0 }
+{
+    word(seed, 0)
 }
 
-impl Iterator for Words {
-    type Item = u32;
-
-    fn next(&mut self) -> Option<u32> {
-        let word = self.word;
-        self.word = if word < RING { word + 1 } else { 1 };
-        Some(word)
-    }
-}
-
-impl Words {
-    fn of(seed: u32) -> Words {
-        Words { word: first(seed) }
-    }
-}
-
-pub fn spill<T: Scrap>(space: &mut [T], seed: u32) {
-    for (place, word) in space.iter_mut().zip(Words::of(seed)) {
-        *place = T::of(word);
+pub fn spill<T: Scrap>(space: &mut [T], seed: u32)
+    ensures { (k : ℕ) → k < length space.old → slice_get space.new k ≡ Some (T.scrap (word_at seed k)) }
+{
+    for (k, place) in space.iter_mut().enumerate() {
+        *place = T::of(word(seed, k));
     }
 }
 
 // Whether the places behind the first ones are as they were spilled.
-pub fn is_kept_behind<T: Scrap>(space: &[T], written: usize, seed: u32) -> bool {
+pub fn is_kept_behind<T: Scrap>(space: &[T], written: usize, seed: u32) -> bool
+    ensures { result ≡ list_all (λ place. nat_lt place.0 written || T.eq place.1 (T.scrap (word_at seed place.0))) (enumerate_from 0 space.now) }
+{
     space
         .iter()
-        .zip(Words::of(seed))
-        .skip(written)
-        .all(|(place, word)| *place == T::of(word))
+        .enumerate()
+        .all(|(k, place)| k < written || *place == T::of(word(seed, k)))
 }
 
 // Whether the work slice, the first words of a space that was spilled with the same seed, is left as
 // a call must leave it, and the words behind it are kept.
-pub fn is_left(space: &[u32], lent: usize, seed: u32) -> bool {
+pub fn is_left(space: &[u32], lent: usize, seed: u32) -> bool
+    ensures { result ≡ list_all (is_left_at lent seed) (enumerate_from 0 space.now) }
+{
     let cleared = if lent < CLEARED { 0 } else { CLEARED };
-    space.iter().take(cleared).all(|word| *word == 0) && is_kept_behind(space, cleared, seed)
+    space
+        .iter()
+        .enumerate()
+        .all(|(k, x)| *x == if k < cleared { 0 } else { word(seed, k) })
 }

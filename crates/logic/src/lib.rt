@@ -6,11 +6,12 @@ ghost use Rattle.logic.specs.Levels.{not_level, and_level, or_level, xor_level, 
 
 use std::ops::{BitAnd, BitOr, BitXor, Not};
 
+// A level; the number is its byte. No Option<bool>: undefined is a level too, which the operations give and take.
 #[derive(Clone, Copy, Debug, PartialEq, Eq)]
 pub enum Trit {
-    Zero,
-    One,
-    Undef,
+    Zero = 0,
+    One = 1,
+    Undef = 2,
 }
 
 impl Not for Trit {
@@ -43,6 +44,7 @@ impl BitAnd for Trit {
     }
 }
 
+// By a table of its own, as the Rust and the definition have it; by `!` and `&` it would be no plainer.
 impl BitOr for Trit {
     type Output = Trit;
 
@@ -76,16 +78,12 @@ impl BitXor for Trit {
     }
 }
 
-// A level as a byte of the stimulus and the reply.
+// A level as a byte of the stimulus and the reply. A number and no u8: levels stand in words, and two places that have a byte turn it there.
 impl From<Trit> for u32 {
     ghost from_gives = { λ t b. b ≡ byte_of t };
 
     fn from(t: Trit) -> u32 {
-        match t {
-            Trit::Zero => 0,
-            Trit::One => 1,
-            Trit::Undef => 2,
-        }
+        t as u32
     }
 }
 
@@ -93,6 +91,7 @@ impl From<Trit> for u32 {
 impl From<u32> for Trit {
     ghost from_gives = { λ b t. t ≡ level_of b };
 
+    #[tactic(auto, unfolding(crate::specs::Levels::level_of))]
     fn from(b: u32) -> Trit {
         match b {
             0 => Trit::Zero,
@@ -104,6 +103,7 @@ impl From<u32> for Trit {
 
 impl Trit {
     // One bit of a multiplexer: an undefined select gives what both arms agree on.
+    #[tactic(auto, unfolding(crate::specs::Levels::eq_level))]
     pub fn mux(self, arg1: Trit, arg2: Trit) -> Trit
         ensures { result ≡ mux_level self arg1 arg2 }
     {

@@ -6,7 +6,7 @@ use mathlib.Core.Logic.{inl}
 use Prim.Native.Nat.{ℕ, ◌+◌, ◌<◌, ◌≤◌}
 use native.Mathlib.Omega.{arith}
 use lib.Dec.{eqb}
-use lib.ListN.{length, drop, take}
+use lib.ListN.{length, drop, take, replicate, length-replicate, get_or-replicate}
 use Rattle.std.proofs.lemmas.List.{length-take-le, get_or_append_left}
 use Rattle.std.proofs.lemmas.Slice.{drop-append-drop}
 use borrow.Author.Count.{below_more}
@@ -28,14 +28,17 @@ use Rattle.loops.proofs.Rank.{falls-no-loop}
 use Rattle.loops.proofs.Lowest.{IsLowest, lowest-on-loop}
 
 -- the marks of the first n slots are off
-pub cleared : (n : ℕ) (ws vs : List ℕ) (i : ℕ) → (n ≤ 512) × (16384 ≤ length ws) → length vs ≡ length (take n ws) → length (take n ws) ≤ i
-    → ((k : ℕ) → k < i → mark vs k ≡ 0) → Cleared n ws (vs ++ drop n ws)
-cleared n ws vs i h e d z =
-    let l : length vs ≡ n = e ∙ length-take-le n ws (omega arith) in
+pub cleared : (n : ℕ) (ws vs : List ℕ) → (n ≤ 512) × (16384 ≤ length ws) → vs ≡ replicate (length (take n ws)) 0 → Cleared n ws (vs ++ drop n ws)
+cleared n ws vs h z =
+    let r : vs ≡ replicate n 0 = z ∙ ap (λ (m : ℕ). replicate m 0) (length-take-le n ws (omega arith)) in
+    let l : length vs ≡ n = rw r (length-replicate n 0) in
     record {
-      blank = λ u k. get_or_append_left vs (drop n ws) 0 u (omega arith) ∙ z u (omega arith);
+      blank = λ u k. get_or_append_left vs (drop n ws) 0 u (omega arith) ∙ rw r (get_or-replicate n u 0 0 k);
       rest = drop-append-drop n ws vs 16384 (omega arith) l;
     }
+
+-- what `clear` cites
+pub ruleset clearing = (cleared)
 
 searchable-own : (rs : List Record) (n : ℕ) (ws : List ℕ) → Searchable rs n ws → Searchable rs (length rs) ws
 searchable-own rs n ws g = subst (λ (k : ℕ). Searchable rs k ws) (sym g.count) g
@@ -149,12 +152,6 @@ module _ (rs : List Record) (n : ℕ) (ws₀ ws : List ℕ) (clock i : ℕ) (g :
         rest = v.walked.rest ∙ g.rest;
       }
 
-      pub going-stuck : (ws₁ : List ℕ) → Cleared n ws₁ ws₀ → Frees rs ws₁ ws' false
-      going-stuck ws₁ k = record {
-        free = λ q. let z : ◌≡◌ {A = ℕ} 0 1 = cc in absurd (omega arith);
-        rest = v.walked.rest ∙ g.rest ∙ k.rest;
-      }
-
   pub going-ends : (ws₁ : List ℕ) → n ≤ i → Cleared n ws₁ ws₀ → Frees rs ws₁ ws true
   unfolding stops_at
   going-ends ws₁ l k = record {
@@ -170,15 +167,6 @@ pub record Seeking (rs : List Record) (n : ℕ) (ws ws' : List ℕ) (i : ℕ) : 
   pub fits : Searchable rs n ws'
   pub none : (k : ℕ) → k < i → on_loop rs k ≡ false
   pub rest : drop 16384 ws' ≡ drop 16384 ws
-
-pub seeking-begins : (rs : List Record) (n : ℕ) (ws : List ℕ) → Searchable rs n ws → Seeking rs n ws ws 0
-seeking-begins rs n ws g = record {
-  upto = omega arith;
-  same = refl;
-  fits = g;
-  none = λ k l. absurd (omega arith);
-  rest = refl;
-}
 
 module _ (rs : List Record) (n : ℕ) (ws₀ ws : List ℕ) (i : ℕ) (g : Seeking rs n ws₀ ws i) where
   module _ (l : i < n) (ws' : List ℕ) (b : Bool) (v : Tells rs ws ws' i b) where
@@ -208,6 +196,3 @@ seeking-ends rs n ws₀ ws i g l = finds-nothing rs ws₀ ws (λ j h. g.none j (
 module _ (rs : List Record) (ws ws' : List ℕ) (b : Bool) (v : Frees rs ws ws' b) where
   pub free-finds : b ≡ true → Finds rs ws ws' None
   free-finds t = finds-nothing rs ws ws' (λ j h. v.free t j) v.rest
-
-  pub then-finds : (ws'' : List ℕ) (r : Option Slot) → Finds rs ws' ws'' r → Finds rs ws ws'' r
-  then-finds ws'' r f = record { found = f.found; rest = f.rest ∙ v.rest }

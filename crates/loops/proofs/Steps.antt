@@ -9,9 +9,6 @@ use native.Mathlib.Omega.{arith}
 use lib.Dec.{eqb}
 use lib.ListN.{length, set, drop}
 use lib.Seq.{drop-set-lt}
-use mir.Syntax.{w32}
-use mir.Val.{Fits}
-use borrow.Author.Rules.{Fits-under}
 use borrow.Author.Tests.{eqb-true, eqb-false}
 use Rattle.std.specs.Prelude.{Option, Some, None}
 use Rattle.value.specs.declared.Slot.{Slot}
@@ -24,7 +21,7 @@ use Rattle.loops.specs.Reach.{Reaches, edge}
 use Rattle.loops.specs.inner.Walk.{mark, unvisited, stops_at, Stopped, Reached, Within, Before, Walking, Ready, Coming, Leaves, Walked, Visits, Meets, Follows}
 use Rattle.loops.proofs.Edges.{edge-range}
 use Rattle.loops.proofs.Rank.{reaches-by}
-use Rattle.loops.proofs.Marks.{before-kept, unvisited-kept, opens-fewer, finishes, finished-last}
+use Rattle.loops.proofs.Marks.{unvisited-kept, before-kept, opens-fewer, finishes, finished-last}
 
 -- nothing was changed
 module _ (rs : List Record) (stop : Option Slot) (clock : ℕ) (ws : List ℕ) (w : Walking rs stop clock ws) where
@@ -39,13 +36,6 @@ module _ (rs : List Record) (stop : Option Slot) (clock : ℕ) (ws : List ℕ) (
       rising = le_refl (clock + unvisited (length rs) ws);
     };
     rest = refl;
-  }
-
-  stays-before : (x : ℕ) → x < length rs → (mark ws x ≡ 0 → ⊥) → (stops_at stop x ≡ true → mark ws x ≡ 1 → ⊥) → Before stop ws clock x
-  stays-before x l z o = record {
-    met = z;
-    finished = λ t. omega (arith, o t);
-    earlier = λ t. omega (arith, w.stamps x l);
   }
 
 -- the walk was stopped
@@ -84,29 +74,6 @@ module _ (rs : List Record) (stop : Option Slot) (clock : ℕ) (ws : List ℕ) (
     before = λ d. absurd (d refl);
   }
 
-  module _ (m : ℕ) (e : m ≡ mark ws x) (z : m ≡ 0 → ⊥) where
-    met-before : (stops_at stop x ≡ true → m ≡ 1 → ⊥) → Meets rs stop clock ws ws x clock
-    met-before o = record {
-      walked = stays rs stop clock ws g.walking;
-      before = λ d. stays-before rs stop clock ws g.walking x g.below (λ k. z (e ∙ k)) (λ t k. o t (e ∙ k));
-    }
-
-    pub meet-passed : (b : Bool) → b ≡ stops_at stop x → b ≡ false → Meets rs stop clock ws ws x clock
-    meet-passed b q t = met-before (λ k n. let y : ◌≡◌ {A = ℕ} 0 1 = cc in omega arith)
-
-    pub meet-finished : (m ≡ 1 → ⊥) → Meets rs stop clock ws ws x clock
-    meet-finished n = met-before (λ k. n)
-
-pub meet-visited : (rs : List Record) (stop : Option Slot) (clock : ℕ) (ws ws' : List ℕ) (x next : ℕ) → Visits rs stop clock ws ws' x next → Meets rs stop clock ws ws' x next
-meet-visited rs stop clock ws ws' x next v = record {
-  walked = v.walked;
-  before = λ d. let s : (2 ≤ mark ws' x) × (mark ws' x + 1 ≡ next) = v.stamped d in record {
-    met = λ z. absurd (omega arith);
-    finished = λ t. s.0;
-    earlier = λ t. omega arith;
-  };
-}
-
 leaves-on : (rs : List Record) (stop : Option Slot) (clock c next : ℕ) (ws ws' ws'' : List ℕ) → Leaves rs stop clock c ws ws' → Leaves rs stop c next ws' ws'' → Leaves rs stop clock next ws ws''
 leaves-on rs stop clock c next ws ws' ws'' a b = record {
   walking = b.walking;
@@ -121,9 +88,6 @@ pub edges-inside : (t : List ℕ) (stop : Option Slot) (clock : ℕ) (ws : List 
 edges-inside t stop clock ws s m g = omega (arith, g.below, records-length t)
 
 module _ (rs : List Record) (stop : Option Slot) (clock : ℕ) (ws ws' : List ℕ) (s c : ℕ) (w : Walked rs stop clock ws ws' c) where
-  walked-looped : c ≡ 0 → Follows rs stop clock ws ws' s 1 3 0
-  walked-looped e = record { walked = stuck rs stop clock ws ws' (w.looped e) w.rest; before = λ d. absurd (d refl) }
-
   walked-ready : (c ≡ 0 → ⊥) → Ready rs stop clock ws s 1 → length ws' ≡ length ws → Ready rs stop c ws' s 1
   walked-ready d g l = record {
     fits = record {
@@ -142,16 +106,7 @@ module _ (rs : List Record) (stop : Option Slot) (clock : ℕ) (ws ws' : List �
   walked-falls d t q = omega (arith, unvisited-kept (length rs) ws ws' (w.done d).kept)
 
 module _ (rs : List Record) (stop : Option Slot) (clock : ℕ) (ws ws' : List ℕ) (s low high c : ℕ) (v : Follows rs stop clock ws ws' s low high c) where
-  pub edges-looped : c ≡ 0 → Follows rs stop clock ws ws' s 1 3 0
-  edges-looped = walked-looped rs stop clock ws ws' s c v.walked
-
   module _ (d : c ≡ 0 → ⊥) where
-    pub edges-ready : Ready rs stop clock ws s 1 → length ws' ≡ length ws → Ready rs stop c ws' s 1
-    edges-ready = walked-ready rs stop clock ws ws' s c v.walked d
-
-    pub edges-falls : (t : ℕ) → 8 * unvisited (length rs) ws + 3 ≡ t → 8 * unvisited (length rs) ws' + 2 < t
-    edges-falls = walked-falls rs stop clock ws ws' s c v.walked d
-
     -- another field
     module _ (ws'' : List ℕ) (f r : ℕ) (v' : Follows rs stop c ws' ws'' s f f r) where
       walked_on : Walked rs stop clock ws ws'' r
@@ -160,9 +115,6 @@ module _ (rs : List Record) (stop : Option Slot) (clock : ℕ) (ws ws' : List �
         done = λ e. leaves-on rs stop clock c r ws ws' ws'' (v.walked.done d) (v'.walked.done e);
         rest = v'.walked.rest ∙ v.walked.rest;
       }
-
-      pub more-looped : r ≡ 0 → Follows rs stop clock ws ws'' s 1 3 0
-      more-looped = walked-looped rs stop clock ws ws'' s r walked_on
 
       pub more-ready : (r ≡ 0 → ⊥) → Ready rs stop clock ws s 1 → length ws'' ≡ length ws → Ready rs stop r ws'' s 1
       more-ready = walked-ready rs stop clock ws ws'' s r walked_on
@@ -235,9 +187,6 @@ module _ (rs : List Record) (stop : Option Slot) (clock : ℕ) (ws ws₁ : List 
     }
 
     module _ (d : c ≡ 0 → ⊥) where
-      pub visit-next : Fits w32 (c + 1)
-      visit-next = Fits-under w32 (c + 1) 65536 (omega (arith, (v.walked.done d).walking.room, g.fits.few)) tt
-
       all_edges : (f : ℕ) (x : Slot) → edge_at (record_in rs s) f ≡ Some x → Before stop ws₂ c x.0
       all_edges f x i = v.before d f x (edge-range (record_in rs s) f x i).0 (edge-range (record_in rs s) f x i).1 i
 

@@ -12,99 +12,98 @@ use cell::Record;
 use kinds::Field;
 use value::Slot;
 
-// Whether an open slot ends the walk that meets it: each does, or one alone.
-fn stops(stop: Option<Slot>, x: Slot) -> bool
-    ensures { result ≡ stops_at stop x.0 }
-{
-    match stop {
-        None => true,
-        Some(t) => t.0 == x.0,
-    }
-}
-
-// Opens a slot that was not visited, follows its edges and finishes it. This and the next three answer the next stamp, or 0
-// where the walk met an open slot that ends it. A number: with an Option and `?` checking took 3 to 5 % longer on full tickets
-// (ladder 7.1 to 7.5 µs, muxes 8.5 to 8.9, the late loop 1,659 to 1,730).
-#[cycle(descent)]
-fn visit(work: &mut [u32], ticket: &[u8], stop: Option<Slot>, s: Slot, clock: u32) -> u32
-    requires { Ready (records_of ticket.now) stop clock work.old s.0 0 }
-    ensures { Visits (records_of ticket.now) stop clock work.old work.new s.0 result }
-{
-    let i = s.0 as usize;
-    basics::put(work, i, 1);
-    let next = visit_edges(work, ticket, stop, s, clock);
-    if next == 0 {
-        return 0;
-    }
-    basics::put(work, i, next);
-    next + 1
-}
-
-// Follows the edges of an open slot.
-#[cycle(descent)]
-fn visit_edges(work: &mut [u32], ticket: &[u8], stop: Option<Slot>, s: Slot, clock: u32) -> u32
-    requires { Ready (records_of ticket.now) stop clock work.old s.0 1 }
-    ensures { Follows (records_of ticket.now) stop clock work.old work.new s.0 1 3 result }
-{
-    let r = cell::record_at(ticket, s);
-    let c = visit_edge(work, ticket, stop, s, r, Field::C, clock);
-    if c == 0 {
-        return 0;
-    }
-    let d = visit_edge(work, ticket, stop, s, r, Field::B, c);
-    if d == 0 {
-        return 0;
-    }
-    visit_edge(work, ticket, stop, s, r, Field::A, d)
-}
-
-// Follows the edge of an open slot, whose record is r, by field f.
-#[cycle(descent)]
-fn visit_edge(
-    work: &mut [u32],
-    ticket: &[u8],
+// A walk over the slots of a ticket. An open slot ends it where it is met: each does, or one alone.
+#[derive(Clone, Copy)]
+struct Walk<'a> {
+    ticket: &'a [u8],
     stop: Option<Slot>,
-    s: Slot,
-    r: Record,
-    f: Field,
-    clock: u32,
-) -> u32
-    requires ready { Ready (records_of ticket.now) stop clock work.old s.0 1 }
-    requires r_value { r ≡ record_at ticket.now s.0 }
-    ensures { Follows (records_of ticket.now) stop clock work.old work.new s.0 (field_number f) (field_number f) result }
-{
-    match r.edge_at(f) {
-        None => clock,
-        Some(x) => meet(work, ticket, stop, x, clock),
-    }
 }
 
-// Visits a slot unless it was visited, and says whether the walk ends there.
-#[cycle(descent)]
-fn meet(work: &mut [u32], ticket: &[u8], stop: Option<Slot>, x: Slot, clock: u32) -> u32
-    requires { Coming (records_of ticket.now) stop clock work.old x.0 }
-    ensures { Meets (records_of ticket.now) stop clock work.old work.new x.0 result }
-{
-    let mark = basics::get_or(work, x.0 as usize, 0);
-    if mark == 0 {
-        return visit(work, ticket, stop, x, clock);
+impl<'a> Walk<'a> {
+    // Whether an open slot ends the walk that meets it.
+    #[tactic(auto, unfolding(crate::specs::inner::Walk::stops_at))]
+    fn stops(&self, x: Slot) -> bool
+        ensures { result ≡ stops_at self.now.stop x.0 }
+    {
+        self.stop.is_none_or(|t| t == x)
     }
-    if mark == 1 {
-        if stops(stop, x) {
+
+    // Opens a slot that was not visited, follows its edges and finishes it. This and the next three answer the next stamp, or 0
+    // where the walk met an open slot that ends it. A number: with an Option and `?` checking took 3 to 5 % longer on full tickets
+    // (ladder 7.1 to 7.5 µs, muxes 8.5 to 8.9, the late loop 1,659 to 1,730).
+    #[cycle(descent)]
+    fn visit(&self, work: &mut [u32], s: Slot, clock: u32) -> u32
+        requires { Ready (records_of self.now.ticket.now) self.now.stop clock work.old s.0 0 }
+        ensures { Visits (records_of self.now.ticket.now) self.now.stop clock work.old work.new s.0 result }
+    {
+        let i = s.0 as usize;
+        basics::put(work, i, 1);
+        let next = self.visit_edges(work, s, clock);
+        if next == 0 {
             return 0;
         }
+        basics::put(work, i, next);
+        next + 1
     }
-    clock
+
+    // Follows the edges of an open slot. No `for` over the fields, for the time that checking took (docs/DESIGN-PASS.md, "A
+    // bar of speed").
+    #[cycle(descent)]
+    fn visit_edges(&self, work: &mut [u32], s: Slot, clock: u32) -> u32
+        requires { Ready (records_of self.now.ticket.now) self.now.stop clock work.old s.0 1 }
+        ensures { Follows (records_of self.now.ticket.now) self.now.stop clock work.old work.new s.0 1 3 result }
+    {
+        let r = cell::record_at(self.ticket, s);
+        let c = self.visit_edge(work, s, r, Field::C, clock);
+        if c == 0 {
+            return 0;
+        }
+        let d = self.visit_edge(work, s, r, Field::B, c);
+        if d == 0 {
+            return 0;
+        }
+        self.visit_edge(work, s, r, Field::A, d)
+    }
+
+    // Follows the edge of an open slot, whose record is r, by field f.
+    #[cycle(descent)]
+    fn visit_edge(&self, work: &mut [u32], s: Slot, r: Record, f: Field, clock: u32) -> u32
+        requires ready { Ready (records_of self.now.ticket.now) self.now.stop clock work.old s.0 1 }
+        requires r_value { r ≡ record_at self.now.ticket.now s.0 }
+        ensures { Follows (records_of self.now.ticket.now) self.now.stop clock work.old work.new s.0 (field_number f) (field_number f) result }
+    {
+        match r.edge_at(f) {
+            None => clock,
+            Some(x) => self.meet(work, x, clock),
+        }
+    }
+
+    // Visits a slot unless it was visited, and says whether the walk ends there.
+    #[cycle(descent)]
+    fn meet(&self, work: &mut [u32], x: Slot, clock: u32) -> u32
+        requires { Coming (records_of self.now.ticket.now) self.now.stop clock work.old x.0 }
+        ensures { Meets (records_of self.now.ticket.now) self.now.stop clock work.old work.new x.0 result }
+    {
+        let mark = basics::get_or(work, x.0 as usize, 0);
+        if mark == 0 {
+            return self.visit(work, x, clock);
+        }
+        if mark == 1 {
+            if self.stops(x) {
+                return 0;
+            }
+        }
+        clock
+    }
 }
 
 // Takes the marks off all slots.
+#[tactic(auto, using(crate::proofs::Search::clearing))]
 fn clear(work: &mut [u32], n: u32)
     requires { (n ≤ 512) × (16384 ≤ length work.old) }
     ensures { Cleared n work.old work.new }
 {
-    for mark in work[..n as usize].iter_mut() {
-        *mark = 0;
-    }
+    work[..n as usize].fill(0);
 }
 
 // Whether a walk over all slots ends, since it meets no open slot. Then there is no loop.
@@ -113,9 +112,10 @@ fn walk_all(work: &mut [u32], ticket: &[u8], n: u32) -> bool
     ensures { Frees (records_of ticket.now) work.old work.new result }
 {
     clear(work, n);
+    let walk = Walk { ticket, stop: None };
     let mut clock: u32 = 2;
     for i in 0..n {
-        clock = meet(work, ticket, None, Slot(i), clock);
+        clock = walk.meet(work, Slot(i), clock);
         if clock == 0 {
             return false;
         }
@@ -129,9 +129,14 @@ fn is_on_loop(work: &mut [u32], ticket: &[u8], n: u32, s: Slot) -> bool
     ensures { Tells (records_of ticket.now) work.old work.new s.0 result }
 {
     clear(work, n);
-    visit(work, ticket, Some(s), s, 2) == 0
+    let walk = Walk {
+        ticket,
+        stop: Some(s),
+    };
+    walk.visit(work, s, 2) == 0
 }
 
+// Tried by `find`: what its closure leaves in the words was not proved.
 fn first_on_loop(work: &mut [u32], ticket: &[u8], n: u32) -> Option<Slot>
     requires { Searchable (records_of ticket.now) n work.old }
     ensures { Finds (records_of ticket.now) work.old work.new result }
@@ -144,7 +149,8 @@ fn first_on_loop(work: &mut [u32], ticket: &[u8], n: u32) -> Option<Slot>
     None
 }
 
-// The lowest slot on a loop. One walk over all slots shows that there is none; only where it does not, each slot is asked for itself.
+// The lowest slot on a loop; n is the number of records, handed on beside the ticket: each function would else count them anew, with
+// their bound. One walk over all slots shows that there is none; only where it does not, each slot is asked for itself.
 pub fn find_loop(work: &mut [u32], ticket: &[u8], n: u32) -> Option<Slot>
     requires { Searchable (records_of ticket.now) n work.old }
     ensures { Finds (records_of ticket.now) work.old work.new result }

@@ -1,8 +1,9 @@
 -- Keys by the fields of records. Assumes nothing.
-use mathlib.Core.Path.{◌≡◌, refl, sym}
+use mathlib.Core.Path.{◌≡◌, refl, sym, ap, ◌∙◌}
 use mathlib.Core.Bool.{Bool, true, false, cond, not}
 use Prim.Native.Nat.{ℕ}
-use lib.Dec.{leb}
+use lib.Dec.{ltb, leb}
+use borrow.Author.Tests.{leb-true, leb-false, lt-ltb, le-ltb}
 use Rattle.value.specs.declared.Net.{Net}
 use Rattle.value.specs.declared.ControlNet.TheVariants.{Pos, Neg}
 use Rattle.value.specs.Value.{le_net, le_control}
@@ -13,6 +14,14 @@ use Rattle.cell.specs.declared.Cell.TheVariants.{Input, Output, Buf, Not, And, O
 use Rattle.cell.specs.Records.{record_of, cell_record}
 use Rattle.merge.specs.Merge.{key_of}
 use Rattle.merge.specs.inner.Words.{turned, key_fields}
+
+-- an order that fails, as the code tests it
+pub less-is : (a b : ℕ) → ltb b a ≡ not (leb a b)
+less-is a b = go (leb a b) refl
+  where
+    go : (p : Bool) → leb a b ≡ p → ltb b a ≡ not (leb a b)
+    go true e = le-ltb b a (leb-true a b e) ∙ sym (ap not e)
+    go false e = lt-ltb b a (leb-false a b e) ∙ sym (ap not e)
 
 module _ (bit : ℕ) where
   -- two operands of one sort, exchanged or not

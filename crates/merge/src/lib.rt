@@ -11,12 +11,18 @@ use cell::Record;
 use netlist::{area, fields};
 use value::Slot;
 
+// The flags bytes of an and-inverter with one inverted operand. Both tests below are at the byte: of two control nets each test would take the
+// signs out again.
+const FIRST_INVERTED: u8 = 1;
+
+const SECOND_INVERTED: u8 = 2;
+
 // Whether a commutative cell's operands are exchanged in its key; its record has nothing in fields that its kind does not use.
 fn is_turned(r: Record) -> bool
     ensures { result ≡ turned r }
 {
-    let descends = (r.flags != 2) & !(r.a <= r.b);
-    kinds::operands_commute(r.kind) & ((r.flags == 1) | descends)
+    let descends = (r.flags != SECOND_INVERTED) & (r.b < r.a);
+    kinds::operands_commute(r.kind) & ((r.flags == FIRST_INVERTED) | descends)
 }
 
 // The record of the key of a cell's record, with a bit of its own.
@@ -25,12 +31,11 @@ fn key_record(bit: u16, r: Record) -> Record
 {
     let turned = is_turned(r);
     Record {
-        kind: r.kind,
-        flags: basics::pick(r.flags == 1, 2, r.flags),
+        flags: basics::pick(r.flags == FIRST_INVERTED, SECOND_INVERTED, r.flags),
         bit,
         a: basics::pick(turned, r.b, r.a),
         b: basics::pick(turned, r.a, r.b),
-        c: r.c,
+        ..r
     }
 }
 
@@ -130,14 +135,14 @@ fn merge_next(work: &mut [u32], n: u32, k: u32, s: Slot) -> u32
     merge_cell(work, n, k, s)
 }
 
-// Merges the cells whose slots stand in the order area, one after another.
+// Merges the cells whose slots stand in the order area, one after another; by index, as `levels::fold`.
 fn merge_cells(work: &mut [u32], n: u32, count: u32)
     requires { Ordered n count work.old }
     ensures { MergesCells n count work.old work.new }
 {
     let mut k: u32 = 0;
     for j in 0..count {
-        let s = basics::get_or(work, area::ORDER + (j as usize), 0);
+        let s = area::ORDER.get(work, Slot(j));
         k = merge_next(work, n, k, Slot(s));
     }
 }

@@ -1,43 +1,36 @@
 -- A ticket loaded, merged and delivered. Assumes nothing.
-use mathlib.Core.Path.{◌≡◌, refl, sym, ap, ◌∙◌}
+use mathlib.Core.Path.{◌≡◌, sym, ap, ◌∙◌}
 use mathlib.Core.Bool.{Bool}
-use mathlib.Core.List.{List, [], ◌∷◌}
+use mathlib.Core.List.{List}
 use Prim.Native.Nat.{ℕ}
 use native.Mathlib.Omega.{arith}
-use lib.ListN.{length}
 use Rattle.refusals.specs.declared.Refusal.{Refusal}
 use Rattle.std.specs.Prelude.{Ok, Err, Result}
 use Rattle.cell.specs.declared.Record.{Record}
 use Rattle.cell.specs.Records.{records_of}
-use Rattle.netlist.specs.inner.Areas.{records_in, Within, free_at, visited_at}
+use Rattle.netlist.specs.inner.Areas.{records_in, free_at}
 use Rattle.netlist.specs.Netlist.{Netlist, netlist_of}
 use Rattle.netlist.proofs.Frames.{within-drop}
 use Rattle.compact.specs.Compact.{compact}
 use Rattle.design.specs.inner.Words.{netlist_in}
 use Rattle.merge.specs.Merge.{merging, merged_netlist, merge}
 use Rattle.merge.specs.inner.Words.{Sequenced, MergesNetlist}
-use Rattle.refusals.specs.Refusals.{first_of, Verdict}
-use Rattle.checking.specs.Checking.{netlist_stages}
-use Rattle.calls.specs.declared.Merged.{Merged}
-use Rattle.calls.specs.Answers.{answer_by, merged_of}
-use Rattle.calls.specs.Work.{cleared}
-use Rattle.calls.specs.Calls.{room, encoded, merge_bytes, merge_verdict, merge_answer, merge_reply}
-use Rattle.delivery.specs.inner.Delivery.{Delivers, Begins}
+use Rattle.calls.specs.Answers.{merged_of}
+use Rattle.calls.specs.Calls.{encoded, merge_bytes}
+use Rattle.delivery.specs.inner.Delivery.{Delivers, Loaded}
 use Rattle.delivery.proofs.Delivering.{delivers-from}
 use Rattle.calls.proofs.Answers.{answered, turned_away}
 use Rattle.merge_call.specs.inner.Merge.{LoadsMerged, Merges}
 use Rattle.merge_call.proofs.Sequence.{records-sequenced}
 
-pub loaded-sequenced : (t : List ℕ) (n : ℕ) (ws : List ℕ) → records_in n ws ≡ records_of t → first_of (netlist_stages (records_of t)) ≡ Ok tt
-    → Sequenced (netlist_in n ws).bits
-loaded-sequenced t n ws loaded passed = records-sequenced (records_in n ws) (ap (λ (rs : List Record). first_of (netlist_stages rs)) loaded ∙ passed)
+pub loaded-sequenced : (n : ℕ) (ws : List ℕ) → Loaded n ws → Sequenced (netlist_in n ws).bits
+loaded-sequenced n ws h = records-sequenced (records_in n ws) h.pass
 
-pub merged-loads : (t : List ℕ) (n : ℕ) (ws₀ ws ws₁ : List ℕ) (r : Bool) → MergesNetlist n ws ws₁ r → records_in n ws ≡ records_of t → Within 0 visited_at ws₀ ws
-    → LoadsMerged t n ws₀ ws₁ r
-merged-loads t n ws₀ ws ws₁ r m loaded frame = record {
+pub merged-loads : (t : List ℕ) (n : ℕ) (ws ws₁ : List ℕ) (r : Bool) → MergesNetlist n ws ws₁ r → records_in n ws ≡ records_of t → LoadsMerged t n ws ws₁ r
+merged-loads t n ws ws₁ r m loaded = record {
   result = m.result ∙ ap (λ (rs : List Record). merged_netlist (netlist_of rs) (merging (netlist_of rs))) loaded;
   flag = m.flag ∙ ap (λ (rs : List Record). (merge (netlist_of rs)).1) loaded;
-  rest = within-drop 0 free_at 16384 ws ws₁ (omega arith) m.frame ∙ within-drop 0 visited_at 16384 ws₀ ws (omega arith) frame;
+  rest = within-drop 0 free_at 16384 ws ws₁ (omega arith) m.frame;
 }
 
 -- the answer is that of the netlist written, with the flag beside it

@@ -1,32 +1,23 @@
 // Merging: equal cells made one, and the result compacted.
 #![tactic(auto)]
 
-ghost use Rattle.std.specs.Prelude.{◌≡◌, ◌/◌, length};
+ghost use Rattle.std.specs.Prelude.{◌≡◌, List, ℕ, length};
+ghost use Rattle.cell.specs.Records.{records_of};
+ghost use Rattle.netlist.specs.inner.Areas.{records_in};
 ghost use Rattle.calls.specs.Work.{cleared};
 ghost use Rattle.calls.specs.Calls.{merge_answer, merge_reply};
-ghost use Rattle.delivery.specs.inner.Delivery.{Passed};
-ghost use Rattle.merge_call.specs.inner.Merge.{LoadsMerged, Merges};
+ghost use Rattle.delivery.specs.inner.Delivery.{Loaded};
+ghost use Rattle.merge_call.specs.inner.Merge.{Merges};
 
 use calls::Merged;
 use refusals::Refusal;
 
-// Merges the n records of a ticket that passed, and says whether an operand was changed.
-fn load_merged(ticket: &[u8], work: &mut [u32], n: u32) -> bool
-    requires passed { Passed ticket.now work.old }
-    requires n_value { n ≡ length ticket.now / 16 }
-    ensures { LoadsMerged ticket.now n work.old work.new result }
+// 12, or the byte count and the flag, for the n records of a ticket that passed.
+fn merged(work: &mut [u32], n: u32, reply: &mut [u8]) -> Result<Merged, Refusal>
+    requires { Loaded n work.old }
+    ensures { (t : List ℕ) → records_in n work.old ≡ records_of t → Merges t work.old work.new reply.old reply.new result }
 {
-    netlist::load(work, ticket, n);
-    merge::merge(work, n)
-}
-
-// 12, or the byte count and the flag, for a ticket that passed.
-fn merged(ticket: &[u8], work: &mut [u32], reply: &mut [u8]) -> Result<Merged, Refusal>
-    requires { Passed ticket.now work.old }
-    ensures { Merges ticket.now work.old work.new reply.old reply.new result }
-{
-    let n = (ticket.len() / 16) as u32;
-    let changed = load_merged(ticket, work, n);
+    let changed = merge::merge(work, n);
     let bytes = delivery::deliver(work, n, reply)?;
     Ok(Merged { bytes, changed })
 }
@@ -37,10 +28,5 @@ pub fn merge(ticket: &[u8], work: &mut [u32], reply: &mut [u8]) -> Result<Merged
     ensures reply_after { reply.new ≡ merge_reply (length work.old) ticket.now reply.old }
     ensures work_after { work.new ≡ cleared work.old }
 {
-    delivery::with_work(
-        ticket,
-        work,
-        reply,
-        |work, reply| merged(ticket, work, reply),
-    )
+    delivery::with_work(ticket, work, reply, merged)
 }

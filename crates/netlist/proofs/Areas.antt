@@ -108,8 +108,8 @@ pub record Loading (t : List ℕ) (ws₀ ws : List ℕ) (s : ℕ) : Type 0 where
   pub frame : Within 0 visited_at ws₀ ws
 
 module _ (t : List ℕ) (n : ℕ) (ws₀ ws : List ℕ) (s : ℕ) (g : Loading t ws₀ ws s) where
-  pub loading-more : n ≤ 512 → s < n → (ws' : List ℕ) (r : Record) → r ≡ record_at t s → ws' ≡ store_words ws s r → ((k : ℕ) → Fits w8 (get_or t k 0)) → Loading t ws₀ ws' (s + 1)
-  loading-more few l ws' r e f bytes =
+  pub loading-more : s < n → n ≡ length t / 16 → length t / 16 ≤ 512 → (ws' : List ℕ) (r : Record) → r ≡ record_at t s → ws' ≡ store_words ws s r → ((k : ℕ) → Fits w8 (get_or t k 0)) → Loading t ws₀ ws' (s + 1)
+  loading-more l count few ws' r e f bytes =
       let long : 16384 ≤ length ws = let h : 16384 ≤ length ws₀ = g.long in omega (arith, g.frame.same) in
       subst (λ (vs : List ℕ). Loading t ws₀ vs (s + 1)) (sym f) (record {
         long = g.long;

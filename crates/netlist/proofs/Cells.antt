@@ -82,10 +82,10 @@ unfolding cell_of
 source-kind r = source-sort (sort_of r.kind) r
 
 -- an output and a source by the first word of a record
-pub output-word : (ws : List ℕ) (s x : ℕ) → x ≡ get_or ws (s * 4) 0 → eqb (x % 256) 2 ≡ is_output (cell_of (word_record ws s))
+pub output-word : (ws : List ℕ) (s k : ℕ) → k ≡ get_or ws (s * 4) 0 % 256 → eqb k 2 ≡ is_output (cell_of (word_record ws s))
 unfolding word_record
-output-word ws s x e = ap (λ (y : ℕ). eqb (y % 256) 2) e ∙ sym (output-kind (word_record ws s))
+output-word ws s k e = ap (λ (y : ℕ). eqb y 2) e ∙ sym (output-kind (word_record ws s))
 
-pub source-word : (ws : List ℕ) (s x : ℕ) → x ≡ get_or ws (s * 4) 0 → is_source_sort (sort_of (x % 256)) ≡ is_source (cell_of (word_record ws s))
+pub source-word : (ws : List ℕ) (s k : ℕ) → k ≡ get_or ws (s * 4) 0 % 256 → is_source_sort (sort_of k) ≡ is_source (cell_of (word_record ws s))
 unfolding word_record
-source-word ws s x e = ap (λ (y : ℕ). is_source_sort (sort_of (y % 256))) e ∙ sym (source-kind (word_record ws s))
+source-word ws s k e = ap (λ (y : ℕ). is_source_sort (sort_of y)) e ∙ sym (source-kind (word_record ws s))

@@ -6,9 +6,11 @@ use mathlib.Core.Logic.{◌⊎◌, inl, ⊎_elim}
 use Prim.Native.Nat.{ℕ, zero, suc, ◌+◌, ◌-◌, ◌*◌, ◌<◌, ◌≤◌}
 use native.Mathlib.Omega.{arith}
 use lib.Dec.{eqb}
-use lib.ListN.{get_or, set, drop, length-set, length-drop}
+use lib.ListN.{get_or, set, drop, length-set, length-drop, get_or-eq_default}
+use native.Mathlib.Decide.{dec_lt}
 use lib.Seq.{get_or-set_other, get_or-drop, ext_get_or}
 use Rattle.basics.specs.Lists.{tabulate}
+use Rattle.basics.proofs.Tables.{tabulate-length, tabulate-at}
 use Rattle.netlist.specs.inner.Areas.{word_record, records_in, words_in, marks_in, Within}
 
 pub within_none : (from to : ℕ) (ws : List ℕ) → Within from to ws ws
@@ -77,3 +79,25 @@ module _ (from to : ℕ) (ws ws' : List ℕ) (p : Within from to ws ws') where
   pub records-kept : (n : ℕ) → n * 4 ≤ from → records_in n ws' ≡ records_in n ws
   unfolding records_in
   records-kept n h = tabulate-same (word_record ws') (word_record ws) n (λ i l. record-kept i (inl (omega arith)))
+
+-- a word of an area's first n, and d past them
+module _ (base n : ℕ) (ws : List ℕ) (s : ℕ) where
+  pub word-inside : (d : ℕ) → s < n → (w : ℕ) → w ≡ get_or ws (base + s) 0 → w ≡ get_or (words_in base n ws) s d
+  unfolding words_in
+  word-inside d l w e = e ∙ sym (tabulate-at (λ i. get_or ws (base + i) 0) n d s l)
+
+  pub word-past : (d : ℕ) → n ≤ s → d ≡ get_or (words_in base n ws) s d
+  unfolding words_in
+  word-past d l = sym (get_or-eq_default (words_in base n ws) d (omega (arith, tabulate-length (λ (i : ℕ). get_or ws (base + i) 0) n)))
+
+  -- so of what a function makes of the words
+  pub word-as : {A : Type 0} (g : ℕ → A) (d : ℕ) → get_or (tabulate (λ i. g (get_or ws (base + i) 0)) n) s (g d) ≡ g (get_or (words_in base n ws) s d)
+  word-as {A} g d = go (dec_lt s n)
+    where
+      table : ℕ → A
+      table i = g (get_or ws (base + i) 0)
+
+      go : Dec (s < n) → get_or (tabulate table n) s (g d) ≡ g (get_or (words_in base n ws) s d)
+      go (yes l) = tabulate-at table n (g d) s l ∙ ap g (word-inside d l (get_or ws (base + s) 0) refl)
+      go (no l) =
+          get_or-eq_default (tabulate table n) (g d) (omega (arith, tabulate-length table n)) ∙ ap g (word-past d (omega arith))

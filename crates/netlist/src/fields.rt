@@ -1,7 +1,7 @@
 // `Cell::visit` and `Cell::visit_mut` at the fields of a record. None of this branches on the kind, which is hard to predict.
 ghost use Rattle.std.specs.Prelude.{◌≡◌};
 ghost use Rattle.cell.specs.Records.{cell_of, cell_record};
-ghost use Rattle.netlist.specs.inner.Fields.{operand_at, with_nets, renamed_fields};
+ghost use Rattle.netlist.specs.inner.Fields.{field_operands, with_nets, renamed_fields};
 
 use cell::Record;
 use kinds::Sort;
@@ -16,6 +16,7 @@ pub fn plain(r: Record) -> Record
         kind: basics::pick(known, r.kind, Sort::Buf as u8),
         flags: basics::pick(
             kinds::has_flags(r.kind),
+            // The two signs one by one, as the definition has them.
             r.flags % 2 + r.flags / 2 % 2 * 2,
             0,
         ),
@@ -26,36 +27,30 @@ pub fn plain(r: Record) -> Record
     }
 }
 
-// The nets in the fields; a constant where there is none. One function a field: over a Field the same three lines would be arms of a match.
-pub fn net_a(r: Record) -> Net
-    ensures { result ≡ operand_at r 1 }
+// The nets that a cell reads, by field; a constant where there is none.
+#[derive(Clone, Copy)]
+pub struct Operands(pub Net, pub Net, pub Net);
+
+// Those in the fields of a record.
+pub fn nets(r: Record) -> Operands
+    ensures { result ≡ field_operands r }
 {
-    Net(basics::pick(kinds::net_in_a(r.kind), r.a, 0))
+    Operands(
+        Net(basics::pick(kinds::net_in_a(r.kind), r.a, 0)),
+        Net(basics::pick(kinds::net_in_b(r.kind), r.b, 0)),
+        Net(basics::pick(kinds::net_in_c(r.kind), r.c, 0)),
+    )
 }
 
-pub fn net_b(r: Record) -> Net
-    ensures { result ≡ operand_at r 2 }
-{
-    Net(basics::pick(kinds::net_in_b(r.kind), r.b, 0))
-}
-
-pub fn net_c(r: Record) -> Net
-    ensures { result ≡ operand_at r 3 }
-{
-    Net(basics::pick(kinds::net_in_c(r.kind), r.c, 0))
-}
-
-// The record with other nets where there are any.
+// The record with other nets where there are any. Three nets and no `Operands`: both callers have just made them one by one.
 pub fn with_nets(r: Record, a: Net, b: Net, c: Net) -> Record
     ensures { result ≡ with_nets r a b c }
 {
     Record {
-        kind: r.kind,
-        flags: r.flags,
-        bit: r.bit,
         a: basics::pick(kinds::net_in_a(r.kind), a.0, r.a),
         b: basics::pick(kinds::net_in_b(r.kind), b.0, r.b),
         c: basics::pick(kinds::net_in_c(r.kind), c.0, r.c),
+        ..r
     }
 }
 
@@ -64,8 +59,9 @@ pub fn renamed<F: Fn(Net) -> Net>(r: Record, f: F) -> Record
     requires { F.IsAlwaysCallable f }
     ensures { (g : Net → Net) → ((x : Net) (y : Net) → F.post f x y → y ≡ g x) → result ≡ renamed_fields g r }
 {
-    let a = f(net_a(r));
-    let b = f(net_b(r));
-    let c = f(net_c(r));
-    with_nets(r, a, b, c)
+    let Operands(a, b, c) = nets(r);
+    let x = f(a);
+    let y = f(b);
+    let z = f(c);
+    with_nets(r, x, y, z)
 }

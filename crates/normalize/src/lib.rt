@@ -1,7 +1,7 @@
 // What a rule gives (netlist/src/rewrite.rs, `RewriteResult`), and `Normalize` (generic/src/rewrite/normalize.rs).
 #![tactic(auto)]
 
-ghost use Rattle.std.specs.Prelude.{◌≡◌};
+ghost use Rattle.std.specs.Prelude.{◌≡◌, Some};
 ghost use Rattle.normalize.specs.Outcomes.{from_control};
 ghost use Rattle.normalize.specs.Normalize.{normalize as normalize_of};
 
@@ -25,14 +25,16 @@ pub enum Change {
 }
 
 // A control net in a cell's place: a negative one is an inverter.
-#[tactic(auto, unfolding(crate::specs::Outcomes::from_control))]
-pub fn from_control(c: ControlNet) -> Option<Change>
-    ensures { result ≡ from_control c }
-{
-    Some(match c {
-        ControlNet::Pos(n) => Change::Value(n),
-        ControlNet::Neg(n) => Change::Form(Cell::Not(n)),
-    })
+impl From<ControlNet> for Change {
+    ghost from_gives = { λ c r. Some r ≡ from_control c };
+
+    #[tactic(auto, unfolding(crate::specs::Outcomes::from_control))]
+    fn from(c: ControlNet) -> Change {
+        match c {
+            ControlNet::Pos(n) => Change::Value(n),
+            ControlNet::Neg(n) => Change::Form(Cell::Not(n)),
+        }
+    }
 }
 
 // `Normalize`: buf is its operand; and-exchange, or-exchange, xor-exchange and aig-exchange put the operands in order.

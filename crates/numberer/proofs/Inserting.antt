@@ -46,11 +46,6 @@ entered-none ws = record { each = λ i l. absurd (omega arith) }
 pub mixed-none : (ws : List ℕ) → Mixed 0 ws
 mixed-none ws = record { each = λ i l. absurd (omega arith) }
 
--- `insert`: its two stores, and so one more key with its number
-pub stored : (ws ws₁ ws' : List ℕ) (k : ℕ) (key : Record) (x : ℕ) → ws₁ ≡ store_words ws (numberer_at + k) key → x ≡ mix_of key → ws' ≡ set ws₁ (mixes_at + k) x
-    → ws' ≡ set (store_words ws (numberer_at + k) key) (mixes_at + k) (mix_of key)
-stored ws ws₁ ws' k key x e f g = rw (g, e, f)
-
 module _ (ws : List ℕ) (k : ℕ) (key : Record) (s : ℕ) (c : Cell) (key-is : key ≡ cell_record s c) (ws' : List ℕ)
     (put : ws' ≡ set (store_words ws (numberer_at + k) key) (mixes_at + k) (mix_of key)) (long : 16384 ≤ length ws) (room : k < 1024) (small : s < 1024) where
   abbrev between : List ℕ

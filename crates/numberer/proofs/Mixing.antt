@@ -1,11 +1,11 @@
 -- The numbers that keys are first compared by. Assumes nothing.
 use mathlib.Core.Path.{◌≡◌, refl, sym, ap, ◌∙◌, subst}
-use mathlib.Core.Bool.{Bool, true, false, cond, ◌&&◌, false≢true}
+use mathlib.Core.Bool.{Bool, true, false, ◌&&◌, false≢true}
 use mathlib.Core.List.{List}
-use Prim.Native.Nat.{ℕ, zero, suc, ◌+◌, ◌-◌, ◌*◌, ◌/◌, ◌%◌, ◌≤◌, ◌<◌}
+use Prim.Native.Nat.{ℕ, zero, suc, ◌+◌, ◌-◌, ◌≤◌, ◌<◌}
 use native.Mathlib.Omega.{arith}
 use native.Mathlib.Decide.{dec_lt}
-use native.Mathlib.Nat.{mod-add-div}
+use mir.Val.{bool_byte}
 use lib.Dec.{eqb}
 use lib.ListN.{length, get_or, take, drop}
 use Rattle.std.proofs.lemmas.List.{length-take-le, length-drop, get_or-take, get_or-drop}
@@ -64,20 +64,13 @@ module _ (ws : List ℕ) (i : ℕ) (m : MixedAt i ws) (key : Record) (x : ℕ) (
 pub mixed-at : (k : ℕ) (ws : List ℕ) → Mixed k ws → (i : ℕ) → i < k → MixedAt i ws
 mixed-at k ws m i l = m.each i l
 
--- the loop of `count_mix`: a whole number of rounds, at least k
-abbrev pub rounded : ℕ → ℕ
-rounded k = (k + 15) / 16 * 16
-
-whole : (k : ℕ) → (k + 15) % 16 + 16 * ((k + 15) / 16) ≡ k + 15
-whole k = mod-add-div (k + 15) 16
-
--- the numbers that it looks at
+-- the loop of `count_mix`: the numbers that it looks at
 abbrev pub looked_at : ℕ → List ℕ → List ℕ
-looked_at k ws = take (mixes_at + rounded k - mixes_at) (drop mixes_at ws)
+looked_at n ws = take (mixes_at + n - mixes_at) (drop mixes_at ws)
 
-looked-length : (k : ℕ) (ws : List ℕ) → 16384 ≤ length ws → k ≤ 1024 → length (looked_at k ws) ≡ rounded k
-looked-length k ws h l =
-    length-take-le (mixes_at + rounded k - mixes_at) (drop mixes_at ws) (omega (arith, whole k, length-drop mixes_at ws)) ∙ (omega arith)
+looked-length : (k n : ℕ) → n < k + 16 → (ws : List ℕ) → 16384 ≤ length ws → k ≤ 1024 → length (looked_at n ws) ≡ n
+looked-length k n r ws h l =
+    length-take-le (mixes_at + n - mixes_at) (drop mixes_at ws) (omega (arith, length-drop mixes_at ws)) ∙ (omega arith)
 
 pub record Counting (x : ℕ) (xs : List ℕ) (i count : ℕ) : Type 0 where
   pub few : count ≤ i
@@ -86,12 +79,12 @@ pub record Counting (x : ℕ) (xs : List ℕ) (i count : ℕ) : Type 0 where
 pub counting-none : (x : ℕ) (xs : List ℕ) → Counting x xs 0 0
 counting-none x xs = record { few = omega arith; none = λ e j l. absurd (omega arith) }
 
-at_most_one : (b : Bool) → cond b 1 0 ≤ 1
+at_most_one : (b : Bool) → bool_byte b ≤ 1
 at_most_one true = omega arith
 at_most_one false = omega arith
 
 module _ (x : ℕ) (xs : List ℕ) (i count : ℕ) (g : Counting x xs i count) where
-  pub counting_more : (n : ℕ) → n ≡ cond (eqb (get_or xs i 0) x) 1 0 → Counting x xs (i + 1) (count + n)
+  pub counting_more : (n : ℕ) → n ≡ bool_byte (eqb (get_or xs i 0) x) → Counting x xs (i + 1) (count + n)
   counting_more n e = record {
     few = let u : count ≤ i = g.few in omega (arith, at_most_one (eqb (get_or xs i 0) x));
     none = λ z j m. go z j m (dec_lt j i);
@@ -99,21 +92,21 @@ module _ (x : ℕ) (xs : List ℕ) (i count : ℕ) (g : Counting x xs i count) w
     where
       here : n ≡ 0 → get_or xs i 0 ≡ x → ⊥
       here z q =
-          let one : n ≡ 1 = e ∙ ap (λ (b : Bool). cond b 1 0) (eq-eqb (get_or xs i 0) x q) in
+          let one : n ≡ 1 = e ∙ ap bool_byte (eq-eqb (get_or xs i 0) x q) in
           absurd (omega arith)
 
       go : count + n ≡ 0 → (j : ℕ) → j < i + 1 → Dec (j < i) → get_or xs j 0 ≡ x → ⊥
       go z j m (yes l) = g.none (omega arith) j l
       go z j m (no l) = let q : i ≡ j = omega arith in subst (λ (v : ℕ). get_or xs v 0 ≡ x → ⊥) q (here (omega arith))
 
-module _ (x k : ℕ) (ws : List ℕ) (i count : ℕ) (g : Counting x (looked_at k ws) i count) (h : 16384 ≤ length ws) (l : k ≤ 1024) where
-  pub counting-fits : i < length (looked_at k ws) → (b : Bool) (n : ℕ) → n ≡ cond b 1 0 → count + n < 4294967296
-  counting-fits m b n e = let u : count ≤ i = g.few in omega (arith, at_most_one b, whole k, looked-length k ws h l)
+module _ (x k n : ℕ) (q : k ≤ n) (r : n < k + 16) (ws : List ℕ) (i count : ℕ) (g : Counting x (looked_at n ws) i count) (h : 16384 ≤ length ws) (l : k ≤ 1024) where
+  pub counting-fits : i < length (looked_at n ws) → (b : Bool) (j : ℕ) → j ≡ bool_byte b → count + j < 4294967296
+  counting-fits m b j e = let u : count ≤ i = g.few in omega (arith, at_most_one b, looked-length k n r ws h l)
 
-  pub counting-all : length (looked_at k ws) ≤ i → Counts k x ws count
+  pub counting-all : length (looked_at n ws) ≤ i → Counts k x ws count
   counting-all m = record {
-    none = λ z j d q. g.none z j (omega (arith, whole k, looked-length k ws h l))
-        (get_or-take (mixes_at + rounded k - mixes_at) (drop mixes_at ws) j 0 (omega (arith, whole k)) ∙ get_or-drop mixes_at ws j 0 ∙ q);
+    none = λ z j d y. g.none z j (omega (arith, looked-length k n r ws h l))
+        (get_or-take (mixes_at + n - mixes_at) (drop mixes_at ws) j 0 (omega arith) ∙ get_or-drop mixes_at ws j 0 ∙ y);
   }
 
 none : (ws : List ℕ) (key : Record) → seek (numberer_in 0 ws) (cell_of key) ≡ None

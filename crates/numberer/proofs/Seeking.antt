@@ -76,9 +76,10 @@ module _ (k : ℕ) (ws : List ℕ) (key : Record) (i : ℕ) (g : Seeking k ws ke
     tested : b ≡ eq_cell (cell_of (word_record ws (numberer_at + i))) (cell_of key)
     tested = b-is ∙ eq-cells (word_record ws (numberer_at + i)) key (en.each i l) z
 
-    pub seeking-found : b ≡ true → (r : Record) → r ≡ word_record ws (numberer_at + i) → (x : Net) → x ≡ net_of (slot_at r.bit) → Some x ≡ seek (numberer_in k ws) (cell_of key)
-    seeking-found t r r-is x e =
-        ap Some (e ∙ ap (λ (y : Record). net_in y.bit) r-is) ∙ sym (at_first ws (cell_of key) k i l g.missed (sym tested ∙ t))
+    pub seeking-found : b ≡ true → (r : Record) → r ≡ word_record ws (numberer_at + i) → (v : ℕ) → v ≡ r.bit → (x : Net) → x ≡ net_of (slot_at v)
+        → Some x ≡ seek (numberer_in k ws) (cell_of key)
+    seeking-found t r r-is v v-is x e =
+        ap Some (e ∙ ap net_in (v-is ∙ ap (λ (y : Record). y.bit) r-is)) ∙ sym (at_first ws (cell_of key) k i l g.missed (sym tested ∙ t))
 
     pub seeking-more : b ≡ false → Seeking k ws key (i + 1)
     seeking-more t = record {

@@ -1,5 +1,7 @@
 // The numberer: the map from a cell to the net that holds it, `Numberer` of generic/src/merge.rs and the cache of netlist/src/rewrite.rs.
-// Its entries are keys in an area of the work slice, each as a record whose bit is the slot of the cell.
+// Its entries are keys in an area of the work slice, each as a record whose bit is the slot of the cell; how many there are is a number that
+// goes beside the area, as the Rust's map has none here. Two areas and no map: the library has no heap, and of the mixes alone several are
+// compared at a time.
 #![tactic(auto)]
 
 ghost use Rattle.std.specs.Prelude.{◌≡◌, ◌+◌, ◌≤◌, ◌<◌, length, set};
@@ -17,8 +19,8 @@ use value::{Net, Slot};
 fn mix(r: Record) -> u32
     ensures { result ≡ mix_of r }
 {
-    let rest = (r.flags as u32) % 4 + 4 * (r.c % 16);
-    r.a % 2048 + 2048 * (r.b % 2048 + 2048 * ((r.kind as u32) % 16 + 16 * rest))
+    let rest = u32::from(r.flags) % 4 + 4 * (r.c % 16);
+    r.a % 2048 + 2048 * (r.b % 2048 + 2048 * (u32::from(r.kind) % 16 + 16 * rest))
 }
 
 // How many of the first k entries have the mix x; what stands behind them is counted too, up to a multiple of 16. Since it does not stop at
@@ -28,10 +30,12 @@ fn count_mix(work: &[u32], k: u32, x: u32) -> u32
     requires k_bound { k ≤ 1024 }
     ensures { Counts k x work.now result }
 {
-    let end = (k as usize + 15) / 16 * 16;
+    let from = area::MIXES.0 as usize;
+    let end = (k as usize).next_multiple_of(16);
+    // A `for` that adds a number for each: `filter` and `count` would be as long.
     let mut count: u32 = 0;
-    for m in work[area::MIXES..area::MIXES + end].iter() {
-        count += basics::pick(*m == x, 1, 0);
+    for m in work[from..from + end].iter() {
+        count += u32::from(*m == x);
     }
     count
 }
@@ -43,7 +47,7 @@ fn same_at(work: &[u32], i: u32, key: Record, x: u32) -> bool
     requires x_value { x ≡ mix_of key }
     ensures { result ≡ eq_record (word_record work.now (numberer_at + i)) key }
 {
-    if basics::get_or(work, area::MIXES + (i as usize), 0) == x {
+    if area::MIXES.get(work, Slot(i)) == x {
         return design::queue::record_eq(netlist::record_in(work, Slot(area::NUMBERER + i)), key);
     }
     false
@@ -58,10 +62,11 @@ fn find_first(work: &[u32], k: u32, key: Record, x: u32) -> Option<Net>
     requires x_value { x ≡ mix_of key }
     ensures { result ≡ seek (numberer_in k work.now) (cell_of key) }
 {
+    // A `for`: by `find` the entry would be read in a `map` behind it, no shorter.
     for i in 0..k {
         if same_at(work, i, key, x) {
             let r = netlist::record_in(work, Slot(area::NUMBERER + i));
-            return Some(Net::from_cell_index(Slot(r.bit as u32)));
+            return Some(Net::from_cell_index(Slot(u32::from(r.bit))));
         }
     }
     None
@@ -91,5 +96,5 @@ pub fn insert(work: &mut [u32], k: u32, key: Record)
     ensures { work.new ≡ set (store_words work.old (numberer_at + k) key) (mixes_at + k) (mix_of key) }
 {
     netlist::put_record(work, Slot(area::NUMBERER + k), key);
-    basics::put(work, area::MIXES + (k as usize), mix(key));
+    area::MIXES.put(work, Slot(k), mix(key));
 }

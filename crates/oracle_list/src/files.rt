@@ -1,7 +1,10 @@
 // The list's files, read in step: for each ticket an entry of each file.
-ghost use Rattle.std.specs.Prelude.{◌<◌, ◌≤◌, length, take, IfOk};
+ghost use Rattle.std.specs.Prelude.{◌≡◌, IsTrue, length, IfOk, MatchOption};
+ghost use Rattle.std.specs.Int.{w16, w32};
 ghost use Rattle.std.specs.Io.KnownBytes.{Consumes, IsAtEnd};
+ghost use Rattle.oracle_list.specs.Entries.{TakesPiece};
 
+use full_read::read_full;
 use std::io::{ErrorKind, Read};
 use std::{fs, io, rt};
 use thiserror::Error;
@@ -43,37 +46,31 @@ pub fn close<F: Drop>(files: Files<F>) {
     drop(files)
 }
 
-// Reads until the buffer is full or the file ends, and answers how many bytes it put at the
-// buffer's start. No `for` counts its steps: each is as long as the read gives.
-pub fn read_full<R: Read>(file: &mut R, buffer: &mut [u8]) -> io::Result<usize>
-    ensures bound { IfOk result (λ n. n ≤ length buffer.new) }
-    ensures bytes { IfOk result (λ n. Consumes (R.remaining file.old) (R.remaining file.new) (take n buffer.new)) }
-    ensures end { IfOk result (λ n. n < length buffer.new → IsAtEnd (R.remaining file.new)) }
+// Reads the next entry, of so many bytes. There is none where the file ends.
+fn next_entry<const N: usize, R: Read>(file: &mut R) -> Result<Option<[u8; N]>, ListError>
+    ensures { IfOk result (λ next. MatchOption next (IsAtEnd (R.remaining file.old))
+        (λ entry. Consumes (R.remaining file.old) (R.remaining file.new) entry)) }
 {
-    let mut done = 0;
-    while done < buffer.len() {
-        let n = file.read(&mut buffer[done..])?;
-        if n == 0 {
-            break;
-        }
-        done += n;
+    let mut entry = [0; N];
+    match read_full(file, &mut entry)? {
+        n if n == N => Ok(Some(entry)),
+        0 => Ok(None),
+        _ => Err(ListError::Torn),
     }
-    Ok(done)
 }
 
 // Reads an entry, of so many bytes.
 pub fn read_entry<const N: usize, R: Read>(file: &mut R) -> Result<[u8; N], ListError>
     ensures { IfOk result (λ entry. Consumes (R.remaining file.old) (R.remaining file.new) entry) }
 {
-    let mut entry = [0; N];
-    if read_full(file, &mut entry)? < N {
-        return Err(ListError::Torn);
-    }
-    Ok(entry)
+    next_entry(file)?.ok_or(ListError::Torn)
 }
 
 // Reads so many bytes to the start of a buffer.
-fn read<'b>(file: &mut impl Read, buffer: &'b mut [u8], n: usize) -> Result<&'b [u8], ListError> {
+fn read<'b, R: Read>(file: &mut R, buffer: &'b mut [u8], n: usize) -> Result<&'b [u8], ListError>
+    ensures len { IfOk result (λ piece. length piece.now ≡ n) }
+    ensures bytes { IfOk result (λ piece. Consumes (R.remaining file.old) (R.remaining file.new) piece.now) }
+{
     let bytes = buffer.get_mut(..n).ok_or(ListError::Torn)?;
     if read_full(file, bytes)? < n {
         return Err(ListError::Torn);
@@ -82,26 +79,32 @@ fn read<'b>(file: &mut impl Read, buffer: &'b mut [u8], n: usize) -> Result<&'b 
 }
 
 // Reads the next ticket to the start of a buffer. There is none where the file ends.
-pub fn next_ticket<'b>(
-    file: &mut impl Read,
+pub fn next_ticket<'b, R: Read>(
+    file: &mut R,
     buffer: &'b mut [u8],
-) -> Result<Option<&'b [u8]>, ListError> {
-    let mut length = [0; 4];
-    match read_full(file, &mut length)? {
-        0 => Ok(None),
-        4 => Ok(Some(read(file, buffer, u32::from_le_bytes(length) as usize)?)),
-        _ => Err(ListError::Torn),
-    }
+) -> Result<Option<&'b [u8]>, ListError>
+    ensures { IfOk result (λ next. MatchOption next (IsAtEnd (R.remaining file.old))
+        (λ ticket. TakesPiece w32 (R.remaining file.old) (R.remaining file.new) ticket.now)) }
+{
+    let Some(length) = next_entry(file)? else {
+        return Ok(None);
+    };
+    let ticket = read(file, buffer, u32::from_le_bytes(length) as usize)?;
+    Ok(Some(ticket))
 }
 
 // Reads the next assignment to the start of a buffer.
-pub fn next_levels<'b>(file: &mut impl Read, buffer: &'b mut [u8]) -> Result<&'b [u8], ListError> {
+pub fn next_levels<'b, R: Read>(file: &mut R, buffer: &'b mut [u8]) -> Result<&'b [u8], ListError>
+    ensures { IfOk result (λ levels. TakesPiece w16 (R.remaining file.old) (R.remaining file.new) levels.now) }
+{
     let length = read_entry(file)?;
     read(file, buffer, u16::from_le_bytes(length).into())
 }
 
 // Whether nothing is left to read.
-pub fn is_at_end(file: &mut impl Read) -> io::Result<bool> {
+pub fn is_at_end<R: Read>(file: &mut R) -> io::Result<bool>
+    ensures { IfOk result (λ ended. IsTrue ended → IsAtEnd (R.remaining file.old)) }
+{
     let mut x = [0; 1];
     Ok(read_full(file, &mut x)? == 0)
 }

@@ -26,7 +26,7 @@ use Rattle.netlist.proofs.Cells.{cells-length, cell_at, cell-past}
 use Rattle.netlist.specs.Shape.{visit, is_source}
 use Rattle.netlist.specs.Netlist.{cell_in, driven_by, sources}
 use Rattle.netlist.specs.inner.Areas.{word_record, records_in, words_in, order_at, visited_at}
-use Rattle.order.specs.declared.Operands.{Operands}
+use Rattle.netlist.specs.declared.fields.Operands.{Operands}
 use Rattle.order.specs.Walk.{Walk, each, walk_from, fresh}
 use Rattle.order.specs.Orders.{bit_deps, topo_sort}
 use Rattle.order.specs.inner.Code.{walk_of, visited_in, bits_by, Ready, Walks, Clears, Sorts}

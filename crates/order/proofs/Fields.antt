@@ -12,9 +12,9 @@ use Rattle.kinds.specs.Kinds.{sort_of, kind_by, kind_of, use_of, is_operand_use}
 use Rattle.cell.specs.declared.Record.{Record}
 use Rattle.cell.specs.Operands.{field_of, is_operand}
 use Rattle.cell.specs.Records.{cell_by, cell_of}
-use Rattle.netlist.specs.inner.Fields.{operand_at}
-use Rattle.order.specs.declared.Operands.{Operands}
-use Rattle.order.specs.inner.Descent.{operands_of, field_operands}
+use Rattle.netlist.specs.inner.Fields.{operand_at, field_operands}
+use Rattle.netlist.specs.declared.fields.Operands.{Operands}
+use Rattle.order.specs.inner.Descent.{operands_of}
 
 -- the net of a control net
 plain-net : (x : Net) (b : Bool) → x ≡ net (from_net_invert x b)

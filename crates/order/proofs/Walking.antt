@@ -218,8 +218,3 @@ module _ (n : ℕ) (ws ws₁ : List ℕ) (v : Clears n ws ws₁) where
   cleared-walked by xs ws₂ c f w =
       w.said n (omega (arith, cleared-unvisited)) ∙ ap (λ (rs : List Record). each (walk n (by rs)) xs (walk_of n 0 ws₁)) (cleared-records f)
       ∙ ap (each (walk n (by (records_in n ws))) xs) cleared-walk
-
-  pub cleared-visited : (by : List Record → ℕ → List ℕ) (xs : List ℕ) (ws₂ : List ℕ) (c : ℕ) → n ≤ 1024 → Walks by xs n 0 ws₁ ws₂ c
-      → marks_in visited_at n ws₂ ≡ (walk_from n (by (records_in n ws)) xs (fresh n)).visited
-  unfolding walk_of
-  cleared-visited by xs ws₂ c f w = ap (λ (u : Walk). u.visited) (cleared-walked by xs ws₂ c f w)

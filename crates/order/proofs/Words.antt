@@ -7,16 +7,13 @@ use Prim.Native.Nat.{ℕ, ◌+◌, ◌≤◌, ◌<◌}
 use native.Mathlib.Omega.{arith}
 use native.Mathlib.Numerals.{add-one}
 use lib.Dec.{eqb}
-use lib.ListN.{length, get_or, set, replicate, take, drop, length-take, length-drop, length-set, length-replicate, get_or-replicate, get_or-eq_default}
+use lib.ListN.{length, get_or, set, replicate, length-set, length-replicate, get_or-replicate, get_or-eq_default}
 use lib.Seq.{get_or-set_same, get_or-set_other, ext_get_or}
-use borrow.Author.Rules.{rules}
-use borrow.Rule.Slice.PartMut.{put_mid}
-use Rattle.std.proofs.lemmas.List.{places}
 use borrow.Author.Tests.{eqb-true, eqb-false}
 use Rattle.basics.specs.Lists.{tabulate}
 use Rattle.basics.proofs.Tables.{tabulate-length, tabulate-at}
 use Rattle.netlist.specs.inner.Areas.{words_in, marks_in, Within, visited_at, order_at, replaced_at}
-use Rattle.netlist.proofs.Frames.{within-set, words-kept, marks-kept, tabulate-same}
+use Rattle.netlist.proofs.Frames.{within_wider, within-set, word-as, words-kept, marks-kept, tabulate-same}
 use Rattle.order.specs.Walk.{mark, push}
 use Rattle.order.specs.inner.Code.{walk_of, visited_in, Clears}
 use Rattle.order.proofs.Walks.{inside}
@@ -45,10 +42,6 @@ pub marks-length : (n : ℕ) (ws : List ℕ) → length (marks_in visited_at n w
 unfolding marks_in
 marks-length n ws = tabulate-length (λ i. not (eqb (get_or ws (visited_at + i) 0) 0)) n
 
-pub mark-at : (n : ℕ) (ws : List ℕ) (s : ℕ) → s < n → visited_in n ws s ≡ not (eqb (get_or ws (visited_at + s) 0) 0)
-unfolding visited_in marks_in
-mark-at n ws s l = tabulate-at (λ i. not (eqb (get_or ws (visited_at + i) 0) 0)) n true s l
-
 pub mark-past : (n : ℕ) (ws : List ℕ) (s : ℕ) → n ≤ s → visited_in n ws s ≡ true
 unfolding visited_in
 mark-past n ws s l = get_or-eq_default (marks_in visited_at n ws) true (omega (arith, marks-length n ws))
@@ -57,11 +50,9 @@ pub new-below : (n : ℕ) (ws : List ℕ) (s : ℕ) → visited_in n ws s ≡ fa
 unfolding visited_in
 new-below n ws s e = omega (arith, inside (marks_in visited_at n ws) s e, marks-length n ws)
 
-pub mark-word : (n : ℕ) (ws : List ℕ) (s x : ℕ) → s < n → x ≡ get_or ws (visited_at + s) 0 → not (eqb x 0) ≡ visited_in n ws s
-mark-word n ws s x l e = ap (λ (y : ℕ). not (eqb y 0)) e ∙ sym (mark-at n ws s l)
-
-pub mark-none : (n : ℕ) (ws : List ℕ) (s : ℕ) → n ≤ s → true ≡ visited_in n ws s
-mark-none n ws s l = sym (mark-past n ws s l)
+pub mark-word : (n : ℕ) (ws : List ℕ) (s x : ℕ) → x ≡ get_or (words_in visited_at n ws) s 1 → not (eqb x 0) ≡ visited_in n ws s
+unfolding visited_in marks_in
+mark-word n ws s x e = ap (λ (y : ℕ). not (eqb y 0)) e ∙ sym (word-as visited_at n ws s (λ (y : ℕ). not (eqb y 0)) 1)
 
 module _ (n : ℕ) (ws : List ℕ) (s : ℕ) (few : n ≤ 1024) (long : 16384 ≤ length ws) (below : s < n) where
   marks-set : marks_in visited_at n (set ws (visited_at + s) 1) ≡ set (marks_in visited_at n ws) s true
@@ -96,39 +87,12 @@ module _ (n : ℕ) (ws : List ℕ) (count s : ℕ) (few : n ≤ 1024) (long : 16
   unfolding walk_of
   walk-pushed = rw (words-push, marks-kept order_at replaced_at ws (set ws (order_at + count) s) order-frame visited_at n (inl (omega arith)))
 
--- words with a part written over
-module _ (a k : ℕ) (ws ys : List ℕ) (inside : a ≤ length ws) (enough : a + k ≤ length ws) (same : length ys ≡ k) where
-  mid-length : length (put_mid a k ws ys) ≡ length ws
-  mid-length = search (rules, places)
-
-  mid-before : (i : ℕ) → i < a → get_or (put_mid a k ws ys) i 0 ≡ get_or ws i 0
-  mid-before i l = search (rules, places)
-
-  mid-at : (i : ℕ) → i < k → get_or (put_mid a k ws ys) (a + i) 0 ≡ get_or ys i 0
-  mid-at i l = search (rules, places)
-
-  mid-after : (i : ℕ) → a + k ≤ i → get_or (put_mid a k ws ys) i 0 ≡ get_or ws i 0
-  mid-after i l = search (rules, places)
-
-  mid-within : (to : ℕ) → a + k ≤ to → Within a to ws (put_mid a k ws ys)
-  mid-within to l = record { before = mid-before; after = λ i h. mid-after i (omega arith); same = mid-length }
-
--- the words of the first n items, filled with 0
-filled : (k : ℕ) (ws ys : List ℕ) → visited_at + k ≤ length ws → ys ≡ replicate (length (take k (drop visited_at ws))) 0 → ys ≡ replicate k 0
-filled k ws ys much z = z ∙ ap (λ (m : ℕ). replicate m 0) (simp (length-take, length-drop) (omega arith))
-
-pub filled-clears : (n k : ℕ) (ws ys : List ℕ) → 16384 ≤ length ws → n ≤ 1024 → k ≡ n → ys ≡ replicate (length (take k (drop visited_at ws))) 0
-    → Clears n ws (put_mid visited_at k ws ys)
+-- the words of the first n items are 0
+pub blank-clears : (n : ℕ) (ws ws' : List ℕ) → n ≤ 1024 → ((i : ℕ) → i < n → get_or ws' (visited_at + i) 0 ≡ 0)
+    → Within visited_at (visited_at + n) ws ws' → Clears n ws ws'
 unfolding marks_in
-filled-clears n k ws ys long few e z = go (filled k ws ys (omega arith) z)
-  where
-    go : ys ≡ replicate k 0 → Clears n ws (put_mid visited_at k ws ys)
-    go r =
-        let same : length ys ≡ k = rw r (length-replicate k 0) in
-        let zero_at : (u : ℕ) → u < n → get_or (put_mid visited_at k ws ys) (visited_at + u) 0 ≡ 0 =
-        λ u l. mid-at visited_at k ws ys (omega arith) (omega arith) same u (omega arith) ∙ rw r (get_or-replicate k u 0 0 (omega arith)) in
-        record {
-          blank = tabulate-same (λ u. not (eqb (get_or (put_mid visited_at k ws ys) (visited_at + u) 0) 0)) (λ u. false) n
-              (λ u l. ap (λ (x : ℕ). not (eqb x 0)) (zero_at u l)) ∙ tabulate-replicate n false;
-          frame = mid-within visited_at k ws ys (omega arith) (omega arith) same order_at (omega arith);
-        }
+blank-clears n ws ws' few zero p = record {
+  blank = tabulate-same (λ u. not (eqb (get_or ws' (visited_at + u) 0) 0)) (λ u. false) n
+      (λ u l. ap (λ (x : ℕ). not (eqb x 0)) (zero u l)) ∙ tabulate-replicate n false;
+  frame = within_wider visited_at (visited_at + n) visited_at order_at ws ws' (omega arith) (omega arith) p;
+}

@@ -8,29 +8,22 @@ ghost use Rattle.netlist.specs.inner.Areas.{word_record, records_in};
 ghost use Rattle.order.specs.inner.Code.{Ready, Walks, Clears, Sorts, visited_in, bits_by};
 ghost use Rattle.order.specs.inner.Descent.{operands_of, bits_of, operand_bits};
 
+pub use netlist::fields::Operands;
 use netlist::{area, fields};
 use value::{Driver, Net, Slot};
 
-// The nets that a cell reads, by field; a constant where there is none.
-#[derive(Clone, Copy)]
-pub struct Operands(pub Net, pub Net, pub Net);
-
-// Those of a slot's cell, from the fields of its record.
+// The nets that a slot's cell reads, from the fields of its record.
 pub fn operands_at(work: &[u32], s: Slot) -> Operands
     ensures { result ≡ operands_of (cell_of (word_record work.now s.0)) }
 {
-    let r = netlist::record_in(work, s);
-    Operands(fields::net_a(r), fields::net_b(r), fields::net_c(r))
+    fields::nets(netlist::record_in(work, s))
 }
 
 // Whether an item was visited; what is no item counts as visited.
 pub fn is_visited(work: &[u32], n: u32, s: Slot) -> bool
     ensures { result ≡ visited_in n work.now s.0 }
 {
-    if s.0 < n {
-        return basics::get_or(work, area::VISITED + (s.0 as usize), 0) != 0;
-    }
-    true
+    area::VISITED.get_or(work, n, s, 1) != 0
 }
 
 // Takes the marks off all items.
@@ -39,7 +32,7 @@ pub fn clear_marks(work: &mut [u32], n: u32)
     requires n_bound { n ≤ 1024 }
     ensures { Clears n work.old work.new }
 {
-    work[area::VISITED..area::VISITED + n as usize].fill(0);
+    area::VISITED.clear(work, n);
 }
 
 // Walks to a bit unless it was visited.
@@ -62,9 +55,9 @@ fn visit_bit(work: &mut [u32], n: u32, s: Slot, count: u32) -> u32
     ensures { Walks bits_by (s.0 ∷ []) n count work.old work.new result }
 {
     let reads = operands_at(work, s);
-    basics::put(work, area::VISITED + (s.0 as usize), 1);
+    area::VISITED.put(work, s, 1);
     let c = walk_operands(work, n, reads, count);
-    basics::put(work, area::ORDER + (c as usize), s.0);
+    area::ORDER.put(work, Slot(c), s.0);
     c + 1
 }
 
@@ -104,6 +97,8 @@ pub fn topo_sort(work: &mut [u32], n: u32) -> u32
 {
     clear_marks(work, n);
     let mut count: u32 = 0;
+    // A loop and no `fold`, here and in the folds of `cell_order`, `compact` and `merge`: its closure would take the work slice by `&mut` beside
+    // the count, and say no more.
     for s in 0..n {
         count = walk_bit(work, n, Slot(s), count);
     }

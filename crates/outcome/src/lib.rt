@@ -2,7 +2,8 @@
 // differs told and counted.
 #![tactic(auto)]
 
-ghost use Rattle.std.specs.Prelude.{◌≡◌, ◌≤◌, ◌++◌, length, slice_index, codes, decimal, OnOk, Some};
+ghost use Rattle.std.specs.Prelude.{◌≡◌, ◌≤◌, ◌+◌, ◌*◌, ◌++◌, length, slice_index, codes, decimal, OnOk, Some};
+ghost use Rattle.outcome.specs.Figures.{words_of};
 
 mod digest;
 mod tally;
@@ -22,6 +23,29 @@ pub struct Figures {
     pub extra: u32,
     pub field: u32,
     pub spare: u32,
+}
+
+// As an entry of the list has them, six numbers of 16 bits, little-endian.
+impl From<[u8; 12]> for Figures {
+    ghost from_gives = { λ x r.
+        (r.number ≡ slice_index x 0 + slice_index x 1 * 256)
+        × (r.place ≡ slice_index x 2 + slice_index x 3 * 256)
+        × (r.count ≡ slice_index x 4 + slice_index x 5 * 256)
+        × (r.extra ≡ slice_index x 6 + slice_index x 7 * 256)
+        × (r.field ≡ slice_index x 8 + slice_index x 9 * 256)
+        × (r.spare ≡ slice_index x 10 + slice_index x 11 * 256) };
+
+    fn from(entry: [u8; 12]) -> Figures {
+        let [n0, n1, p0, p1, c0, c1, e0, e1, f0, f1, s0, s1] = entry;
+        Figures {
+            number: u16::from_le_bytes([n0, n1]).into(),
+            place: u16::from_le_bytes([p0, p1]).into(),
+            count: u16::from_le_bytes([c0, c1]).into(),
+            extra: u16::from_le_bytes([e0, e1]).into(),
+            field: u16::from_le_bytes([f0, f1]).into(),
+            spare: u16::from_le_bytes([s0, s1]).into(),
+        }
+    }
 }
 
 impl fmt::Display for Figures {
@@ -71,12 +95,14 @@ pub enum Mismatch {
 #[derive(Clone, Copy)]
 pub struct Answer {
     pub number: u32,
+    // Eight numbers in a row, as C has them.
     pub words: [u32; 8],
 }
 
 impl Answer {
     pub fn judge(self, expected: Figures) -> Result<(), Mismatch>
         ensures number { OnOk result (self.number ≡ expected.number) }
+        ensures words { OnOk result (self.words ≡ words_of expected) }
         ensures rest { OnOk result (slice_index self.words 7 ≡ 0) }
     {
         let [place, count, extra, field, spare, x, y, z] = self.words;
@@ -100,6 +126,7 @@ impl Answer {
     // The figures and the reply, the first bytes of a space that was spilled with the same seed.
     pub fn judge_reply(self, space: &[u8], seed: u32, expected: Expected) -> Result<(), Mismatch>
         ensures number { OnOk result (self.number ≡ expected.figures.number) }
+        ensures words { OnOk result (self.words ≡ words_of expected.figures) }
         ensures in_space { OnOk result (slice_index self.words 1 ≤ length space.now) }
     {
         self.judge(expected.figures)?;

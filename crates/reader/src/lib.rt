@@ -9,6 +9,7 @@ ghost use Rattle.reader.specs.Read.{standing, Reads};
 use cell::Record;
 use value::Slot;
 
+// Bytes and a place, and no slice that becomes shorter: each record is told with its slot.
 #[derive(Clone, Copy)]
 pub struct Reader<'a> {
     pub bytes: &'a [u8],
@@ -17,6 +18,7 @@ pub struct Reader<'a> {
 }
 
 // The record of this slot.
+#[tactic(auto, using(crate::proofs::Reading::record_behind))]
 fn record_of(bytes: &[u8], at: usize) -> Record
     requires { at < length bytes.now / 16 }
     ensures { result ≡ record_at bytes.now at }
@@ -40,9 +42,10 @@ impl<'a> Iterator for Reader<'a> {
 
     ghost remaining = { λ r. at_most (length r.bytes.now / 16 - r.at) };
 
+    #[tactic(auto, unfolding(crate::specs::Read::has_record))]
     fn next(&mut self) -> Option<(usize, Record)> {
         let s = self.at;
-        if self.bytes.len() / 16 <= s {
+        if cell::records(self.bytes) <= s {
             return None;
         }
         self.at += 1;

@@ -26,7 +26,8 @@ pub enum Refusal {
     ShortReply,
 }
 
-// A refusal's number and place in the paper's table, and the field that fails of refusal 7, 0 for all other refusals.
+// A refusal's number and place in the paper's table, and the field that fails of refusal 7, 0 for all other refusals: three numbers, as the
+// answer words for C have them.
 #[derive(Clone, Copy, Debug, PartialEq, Eq)]
 pub struct Figures {
     pub number: u32,

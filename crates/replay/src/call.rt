@@ -1,113 +1,89 @@
 // The calls that are replayed.
-use crate::item::{Item, Outcome};
-use oracle_list::{Files, ListError};
+use crate::item::{Fault, Item};
+use oracle_list::Files;
 use std::io;
 use std::io::Read;
+use trial::{Compact, Merge, Replying, Rewrite};
 
-pub trait Call {
+pub trait Call: Copy {
     // Of the file that has what is expected.
     const NAME: &'static str;
 
     fn try_on<F: Read>(
+        self,
         item: Item<'_>,
         files: &mut Files<F>,
         space: &mut [u32],
-    ) -> Result<Outcome, ListError>;
+    ) -> Result<(), Fault>;
 
     // Whether the files that no other call reads are read to their ends.
-    fn is_own_read<F: Read>(_files: &mut Files<F>) -> io::Result<bool> {
+    fn is_own_read<F: Read>(self, _files: &mut Files<F>) -> io::Result<bool> {
         Ok(true)
     }
 }
 
+#[derive(Clone, Copy)]
 pub struct Check;
 
 impl Call for Check {
     const NAME: &'static str = "check";
 
     fn try_on<F: Read>(
+        self,
         item: Item<'_>,
         files: &mut Files<F>,
         space: &mut [u32],
-    ) -> Result<Outcome, ListError> {
+    ) -> Result<(), Fault> {
         item.check(&mut files.expected, space)
     }
 }
 
-pub struct Compact;
+// A call that takes a ticket alone and writes a reply.
+pub trait Written: Replying {
+    const NAME: &'static str;
+}
 
-impl Call for Compact {
+impl Written for Compact {
     const NAME: &'static str = "compact";
-
-    fn try_on<F: Read>(
-        item: Item<'_>,
-        files: &mut Files<F>,
-        space: &mut [u32],
-    ) -> Result<Outcome, ListError> {
-        let ticket = item.ticket;
-        item.replying(
-            |work, reply, answer| ticket::cabbagetier_compact(ticket, work, reply, answer),
-            item.slices.reply,
-            &mut files.expected,
-            space,
-        )
-    }
 }
 
-pub struct Merge;
-
-impl Call for Merge {
+impl Written for Merge {
     const NAME: &'static str = "merge";
-
-    fn try_on<F: Read>(
-        item: Item<'_>,
-        files: &mut Files<F>,
-        space: &mut [u32],
-    ) -> Result<Outcome, ListError> {
-        let ticket = item.ticket;
-        item.replying(
-            |work, reply, answer| ticket::cabbagetier_merge(ticket, work, reply, answer),
-            item.slices.reply,
-            &mut files.expected,
-            space,
-        )
-    }
 }
 
-pub struct Rewrite;
-
-impl Call for Rewrite {
+impl Written for Rewrite {
     const NAME: &'static str = "rewrite";
+}
+
+impl<C: Written> Call for C {
+    const NAME: &'static str = <C as Written>::NAME;
 
     fn try_on<F: Read>(
+        self,
         item: Item<'_>,
         files: &mut Files<F>,
         space: &mut [u32],
-    ) -> Result<Outcome, ListError> {
-        let ticket = item.ticket;
-        item.replying(
-            |work, reply, answer| ticket::cabbagetier_rewrite(ticket, work, reply, answer),
-            item.slices.reply,
-            &mut files.expected,
-            space,
-        )
+    ) -> Result<(), Fault> {
+        item.replying(self, item.slices.reply, &mut files.expected, space)
     }
 }
 
+#[derive(Clone, Copy)]
 pub struct Levels;
 
 impl Call for Levels {
     const NAME: &'static str = "levels";
 
     fn try_on<F: Read>(
+        self,
         item: Item<'_>,
         files: &mut Files<F>,
         space: &mut [u32],
-    ) -> Result<Outcome, ListError> {
+    ) -> Result<(), Fault> {
         item.levels(files, space)
     }
 
-    fn is_own_read<F: Read>(files: &mut Files<F>) -> io::Result<bool> {
+    fn is_own_read<F: Read>(self, files: &mut Files<F>) -> io::Result<bool> {
         oracle_list::is_at_end(&mut files.stimuli)
     }
 }

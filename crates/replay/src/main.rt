@@ -3,19 +3,19 @@
 #![tactic(auto)]
 
 mod call;
-mod entry;
 mod item;
 
-use call::{Call, Check, Compact, Levels, Merge, Rewrite};
-use item::Item;
+use call::{Call, Check, Levels};
+use item::{Fault, Item};
 use oracle_list::{Files, ListError, Slices};
 use outcome::Tally;
 use std::io::Read;
 use std::{io, rt};
+use trial::{Compact, Merge, Rewrite};
 
 // The list is at its end. The call's files must be too.
-fn ended<C: Call, F: Read>(files: &mut Files<F>) -> Result<(), ListError> {
-    let is_read = C::is_own_read(files)?
+fn ended<F: Read>(call: impl Call, files: &mut Files<F>) -> Result<(), ListError> {
+    let is_read = call.is_own_read(files)?
         && oracle_list::is_at_end(&mut files.slices)?
         && oracle_list::is_at_end(&mut files.expected)?;
     if is_read {
@@ -28,14 +28,16 @@ fn ended<C: Call, F: Read>(files: &mut Files<F>) -> Result<(), ListError> {
 // Tries the call on each ticket of the list.
 fn run<C: Call, P: Print, F: Read>(
     rt: &P,
+    call: C,
     files: &mut Files<F>,
     tally: &mut Tally,
 ) -> Result<(), ListError> {
+    // Fixed buffers, as in `item`: with `Vec` the run could fail for want of memory.
     let mut buffer = [0; 16384];
     let mut space = [0; 17000];
     for seed in 0..u32::MAX {
         let Some(ticket) = oracle_list::next_ticket(&mut files.tickets, &mut buffer)? else {
-            return ended::<C, F>(files);
+            return ended(call, files);
         };
         let slices = Slices::from(oracle_list::read_entry(&mut files.slices)?);
         let item = Item {
@@ -43,19 +45,23 @@ fn run<C: Call, P: Print, F: Read>(
             slices,
             seed,
         };
-        let outcome = C::try_on(item, files, &mut space)?;
-        if let Err(mismatch) = outcome {
-            println!(rt; "{} ticket {seed}: {mismatch}", C::NAME)?;
+        let tried = call.try_on(item, files, &mut space);
+        match tried {
+            Ok(()) => {}
+            Err(Fault::Differs(mismatch)) => {
+                println!(rt; "{} ticket {seed}: {mismatch}", C::NAME)?;
+            }
+            Err(Fault::Unread(error)) => return Err(error),
         }
-        *tally = tally.and(outcome.is_err());
+        *tally = tally.and(tried.is_err());
     }
     Ok(())
 }
 
-fn replay<C: Call, R: rt::Files + Print>(rt: &R) -> io::Result<()> {
+fn replay<C: Call>(rt: &(impl rt::Files + Print), call: C) -> io::Result<()> {
     let mut files = oracle_list::open(rt, C::NAME.as_bytes())?;
-    let mut tally = Tally::new("tickets");
-    match run::<C, R, R::File>(rt, &mut files, &mut tally) {
+    let mut tally = Tally::new();
+    match run(rt, call, &mut files, &mut tally) {
         Ok(()) => {}
         Err(ListError::Io(error)) => return Err(error),
         Err(ListError::Torn) => {
@@ -64,13 +70,18 @@ fn replay<C: Call, R: rt::Files + Print>(rt: &R) -> io::Result<()> {
         }
     }
     oracle_list::close(files);
-    println!(rt; "{} {tally}", C::NAME)
+    println!(rt;
+        "{} {} tickets, {} differ",
+        C::NAME,
+        tally.tried,
+        tally.differ
+    )
 }
 
 fn main(rt: HostRuntime) -> io::Result<()> {
-    replay::<Check, _>(&rt)?;
-    replay::<Compact, _>(&rt)?;
-    replay::<Merge, _>(&rt)?;
-    replay::<Rewrite, _>(&rt)?;
-    replay::<Levels, _>(&rt)
+    replay(&rt, Check)?;
+    replay(&rt, Compact)?;
+    replay(&rt, Merge)?;
+    replay(&rt, Rewrite)?;
+    replay(&rt, Levels)
 }

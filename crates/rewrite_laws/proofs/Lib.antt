@@ -2,6 +2,7 @@ pub mod Lightness
 pub mod Falling
 pub mod Fuel
 pub mod Kept
+pub mod Anything
 pub mod Grows
 pub mod Settled
 pub mod Steps

@@ -16,34 +16,19 @@ use Rattle.cell.specs.declared.Cell.TheVariants.{Input}
 use Rattle.netlist.specs.Shape.{visit, visit_mut, has_effects, is_splittable}
 use Rattle.netlist.specs.Netlist.{cell_in}
 use Rattle.order.specs.Orders.{topo_sort}
-use Rattle.std.specs.Prelude.{None, Some}
-use Rattle.design.specs.Queue.{Design, net_in, unchanged, map_net_new, replace_net, replace_cell, Source}
+use Rattle.std.specs.Prelude.{Some}
+use Rattle.design.specs.Queue.{Design, net_in, unchanged, map_net_new, replace_net, replace_cell}
 use Rattle.numberer.specs.Numberer.{Entry, seek}
 use Rattle.rewrite.specs.Rewriter.{Rewriter, Lookup, begun, find_cell, entered, finished}
 use Rattle.rewrite.specs.Rewrite.{Result, none, cell, value, spent, Added, at, unadded, process_cell, add_cell, Run, bit_done, cell_done, run_item, run}
-use Rattle.basics.specs.Lists.{All}
 use Rattle.order_laws.proofs.Bits.{topo_sort-each}
 use Rattle.basics.proofs.Truth.{either, never}
 use Rattle.order_laws.proofs.Sorts.{effects-mapped, sort-kept, splits-by}
 use Rattle.order_laws.proofs.Queue.{seek-snoc}
-use Rattle.basics.proofs.Members.{all-every, has_first}
-use Rattle.aig_laws.specs.Reads.{GateOf, SourceNets}
+use Rattle.basics.proofs.Members.{has_first}
 use Rattle.rewrite_laws.proofs.Kept.{Keeps, KeptResult, KeptAdded, process_cell-kept, add_cell-kept, inverse-reads, rules-read}
+use Rattle.rewrite_laws.proofs.Anything.{Any, Gate, any-nets, any-source}
 use Rattle.rewrite_laws.proofs.Items.{Along, below_next, gate-done, item_by, items-along, port-done, Below}
-
--- a gate, whatever its operands
-abbrev Any : Net → Type 0
-Any n = Unit {0}
-
-abbrev Gate : Cell → Type 0
-Gate c = GateOf Any c
-
-any-nets : (ns : List Net) → All Any ns
-any-nets = all-every Any (λ n. tt)
-
-any-source : (src : Source) → SourceNets Any src
-any-source None = tt
-any-source (Some c) = any-nets (visit c)
 
 -- a cell that is rewritten in its slot: an and-inverter
 abbrev pub InPlace : Cell → Type 0

@@ -34,18 +34,16 @@ use Rattle.rewrite_laws.proofs.Grows.{grown-slots, run_items-grows}
 use Rattle.rewrite_laws.proofs.Running.{RunOk, c-settled, item_ok}
 use Rattle.rewrite_laws.proofs.Items.{item_by, items-cut, items-one, port-done}
 use Rattle.rewriter_state.specs.declared.Extent.{Extent}
-use Rattle.rewriter_state.specs.declared.Added.{Added}
-use Rattle.rewriter_state.specs.declared.Added.TheVariants as added
+use Rattle.rewriter_state.specs.declared.Full.{Full}
 use Rattle.rewriter_cycle.specs.declared.Processed.{Processed}
 use Rattle.rewriter_cycle.specs.declared.Processed.TheVariants as processed
 use Rattle.rewriter_state.specs.inner.Words.{rewriter_in, Held, ReadySlot, Finishes, Replaces, Stays, Becomes}
-use Rattle.rewriter_cycle.specs.inner.Cycle.{slots_after, slots_added, Left, Answers, AnswersAdd, Processes, Adds}
+use Rattle.rewriter_cycle.specs.inner.Cycle.{slots_after, slots_added, result_of, Left, Answers, AnswersAdd, Processes, Adds}
 use Rattle.rewriter_cycle.proofs.Passes.{held-few}
 use Rattle.rewriter.specs.inner.Run.{Step, Between, Went, Goes, ReadyCell, ReadyItem, ReadyItems, RunsBit, RunsCell, RunsItem, RunsItems}
-use Rattle.std.proofs.Common.{Ok, Err}
+use Rattle.std.proofs.Common.{Result, Ok, Err}
 use Rattle.std.specs.Result.{IsErr}
-use Rattle.rewriter.specs.declared.Full.{Full}
-use Rattle.rewriter.proofs.NoSlot.{no_slot}
+use Rattle.rewriter_state.proofs.NoSlot.{no_slot}
 
 -- from one extent to another
 pub between_none : (x : Extent) (ws : List ℕ) → Held x ws → Between x x ws ws
@@ -130,92 +128,72 @@ slots-cell s c (rewriting.value n r) = refl
 slots-cell s c (rewriting.spent r) = refl
 
 -- a bit of a gate
-module _ (x : Extent) (ws ws₁ : List ℕ) (c : Cell) (a : Added) (p : Adds x ws ws₁ c a) where
-  added-said : AnswersAdd x ws ws₁ a (add_cell find_new_cell (rewriter_in x ws) c)
+module _ (x x₁ : Extent) (ws ws₁ : List ℕ) (c : Cell) where
+  added-said : (a : Result Net Full) → Adds x x₁ ws ws₁ c a → AnswersAdd x x₁ ws ws₁ a (add_cell find_new_cell (rewriter_in x ws) c)
   unfolding add_cell process_cell
-  added-said = p.said (suc (weight (rewriter_in x ws).stamps c)) (omega arith)
+  added-said a p = p.said (suc (weight (rewriter_in x ws).stamps c)) (omega arith)
 
-  module _ (n : Net) (x₁ : Extent) (e : a ≡ added.At n x₁) where
-    added-at : (add_cell find_new_cell (rewriter_in x ws) c ≡ rewriting.at n (rewriter_in x₁ ws₁)) × Left x x₁ ws ws₁
-    added-at = subst (λ (b : Added). AnswersAdd x ws ws₁ b (add_cell find_new_cell (rewriter_in x ws) c)) e added-said
-
+  module _ (n : Net) (p : Adds x x₁ ws ws₁ c (Ok n)) where
     added-left : Left x x₁ ws ws₁
-    added-left = added-at.1
+    added-left = (added-said (Ok n) p).1
 
-    pub added-ready : (s : ℕ) → ReadyCell x s ws c → ReadySlot x₁ s ws₁
-    added-ready s g = left-ready x x₁ ws ws₁ added-left s g.slot
-
-    pub bit-on : (s : ℕ) (x₂ : Extent) (ws₂ : List ℕ) → Replaces s x₁ x₂ ws₁ ws₂ n → RunsBit x s ws ws₂ c (Ok x₂)
+    pub bit-on : (s : ℕ) (x₂ : Extent) (ws₂ : List ℕ) → Replaces s x₁ x₂ ws₁ ws₂ n → RunsBit x x₂ s ws ws₂ c (Ok tt)
     bit-on s x₂ ws₂ f =
         let r : Rewriter = rewriter_in x₁ ws₁ in
-        record { said = finish-went x x₁ x₂ ws ws₁ ws₂ s (replace_net r.design s n) r.cache added-at.1 f _ (ap (bit_done s) added-at.0) }
+        record { said = finish-went x x₁ x₂ ws ws₁ ws₂ s (replace_net r.design s n) r.cache added-left f _ (ap (bit_done s) (added-said (Ok n) p).0) }
 
-  pub bit-full : (s : ℕ) (u : Full) → a ≡ added.Full → RunsBit x s ws ws₁ c (Err u)
-  bit-full s u e =
-      let y : rewriting.Added = add_cell find_new_cell (rewriter_in x ws) c in
-      let k : (1024 < slots_added y) × Within 0 keys_from ws ws₁ = subst (λ (b : Added). AnswersAdd x ws ws₁ b y) e added-said in
-      record { said = (omega (arith, k.0, slots-bit s y), k.1) }
+  pub bit-full : (s : ℕ) (e : Full) (y : Step) → Adds x x₁ ws ws₁ c (Err e) → IsErr y → RunsBit x x₁ s ws ws₁ c y
+  bit-full s e y p f =
+      let z : rewriting.Added = add_cell find_new_cell (rewriter_in x ws) c in
+      let k : (1024 < slots_added z) × Within 0 keys_from ws ws₁ = added-said (Err e) p in
+      no_slot (RunsBit x x₁ s ws ws₁ c) (λ u. record { said = (omega (arith, k.0, slots-bit s z), k.1) }) y f
 
 -- an and-inverter
-module _ (x : Extent) (ws ws₁ : List ℕ) (c : Cell) (a : Processed) (p : Processes x ws ws₁ c a) where
-  processed-said : Answers x ws ws₁ a (process_cell find_new_cell (rewriter_in x ws) c)
+module _ (x x₁ : Extent) (ws ws₁ : List ℕ) (c : Cell) where
+  processed-said : (a : Result Processed Full) → Processes x x₁ ws ws₁ c a → Answers x x₁ ws ws₁ a (process_cell find_new_cell (rewriter_in x ws) c)
   unfolding process_cell
-  processed-said = p.said (suc (weight (rewriter_in x ws).stamps c)) (omega arith)
+  processed-said a p = p.said (suc (weight (rewriter_in x ws).stamps c)) (omega arith)
 
-  processed-as : (b : Processed) → a ≡ b → Answers x ws ws₁ b (process_cell find_new_cell (rewriter_in x ws) c)
-  processed-as b e = subst (λ (b : Processed). Answers x ws ws₁ b (process_cell find_new_cell (rewriter_in x ws) c)) e processed-said
-
-  module _ (x₁ : Extent) (e : a ≡ processed.None x₁) where
-    none_left : Left x x₁ ws ws₁
-    none_left = (processed-as (processed.None x₁) e).1
-
-    pub none-ready : (s : ℕ) → ReadyCell x s ws c → ReadySlot x₁ s ws₁
-    none-ready s g = left-ready x x₁ ws ws₁ none_left s g.slot
-
-    pub none-on : (s : ℕ) → ReadyCell x s ws c → (x₂ : Extent) (ws₂ : List ℕ) → Stays s x₁ x₂ ws₁ ws₂ c → RunsCell x s ws ws₂ c (Ok x₂)
-    none-on s g x₂ ws₂ f =
-        let r : Rewriter = rewriter_in x₁ ws₁ in
-        let es : List Entry = r.cache ++ ((c, net_in s) ∷ []) in
-        record {
-          said = finish-went x x₁ x₂ ws ws₁ ws₂ s r.design es none_left f _
-              (ap (cell_done s c) (processed-as (processed.None x₁) e).0 ∙ ap (λ (b : Bool). ran (cond b r (finished r s r.design es))) g.ready.gate.1);
-        }
-
-  module _ (d : Cell) (x₁ : Extent) (e : a ≡ processed.Cell d x₁) where
+  module _ (p : Processed) (k : Processes x x₁ ws ws₁ c (Ok p)) where
     cell-left : Left x x₁ ws ws₁
-    cell-left = (processed-as (processed.Cell d x₁) e).1
+    cell-left = (processed-said (Ok p) k).1
 
     pub cell-ready : (s : ℕ) → ReadyCell x s ws c → ReadySlot x₁ s ws₁
     cell-ready s g = left-ready x x₁ ws ws₁ cell-left s g.slot
 
-    pub cell-on : (s : ℕ) (x₂ : Extent) (ws₂ : List ℕ) → Becomes s x₁ x₂ ws₁ ws₂ d → RunsCell x s ws ws₂ c (Ok x₂)
-    cell-on s x₂ ws₂ f =
+    processed-as : (q : Processed) → p ≡ q → process_cell find_new_cell (rewriter_in x ws) c ≡ result_of q (rewriter_in x₁ ws₁)
+    processed-as q e = (processed-said (Ok p) k).0 ∙ ap (λ q. result_of q (rewriter_in x₁ ws₁)) e
+
+    pub none-on : p ≡ processed.None → (s : ℕ) → ReadyCell x s ws c → (x₂ : Extent) (ws₂ : List ℕ) → Stays s x₁ x₂ ws₁ ws₂ c → RunsCell x x₂ s ws ws₂ c (Ok tt)
+    none-on e s g x₂ ws₂ f =
+        let r : Rewriter = rewriter_in x₁ ws₁ in
+        let es : List Entry = r.cache ++ ((c, net_in s) ∷ []) in
+        record {
+          said = finish-went x x₁ x₂ ws ws₁ ws₂ s r.design es cell-left f _
+              (ap (cell_done s c) (processed-as processed.None e) ∙ ap (λ (b : Bool). ran (cond b r (finished r s r.design es))) g.ready.gate.1);
+        }
+
+    pub cell-on : (d : Cell) → p ≡ processed.Cell d → (s : ℕ) (x₂ : Extent) (ws₂ : List ℕ) → Becomes s x₁ x₂ ws₁ ws₂ d → RunsCell x x₂ s ws ws₂ c (Ok tt)
+    cell-on d e s x₂ ws₂ f =
         let r : Rewriter = rewriter_in x₁ ws₁ in
         record {
           said = finish-went x x₁ x₂ ws ws₁ ws₂ s (replace_cell r.design s d) (r.cache ++ ((d, net_in s) ∷ [])) cell-left f _
-              (ap (cell_done s c) (processed-as (processed.Cell d x₁) e).0);
+              (ap (cell_done s c) (processed-as (processed.Cell d) e));
         }
 
-  module _ (n : Net) (x₁ : Extent) (e : a ≡ processed.Value n x₁) where
-    value-left : Left x x₁ ws ws₁
-    value-left = (processed-as (processed.Value n x₁) e).1
-
-    pub value-ready : (s : ℕ) → ReadyCell x s ws c → ReadySlot x₁ s ws₁
-    value-ready s g = left-ready x x₁ ws ws₁ value-left s g.slot
-
-    pub value_on : (s : ℕ) (x₂ : Extent) (ws₂ : List ℕ) → Replaces s x₁ x₂ ws₁ ws₂ n → RunsCell x s ws ws₂ c (Ok x₂)
-    value_on s x₂ ws₂ f =
+    pub value_on : (n : Net) → p ≡ processed.Value n → (s : ℕ) (x₂ : Extent) (ws₂ : List ℕ) → Replaces s x₁ x₂ ws₁ ws₂ n → RunsCell x x₂ s ws ws₂ c (Ok tt)
+    value_on n e s x₂ ws₂ f =
         let r : Rewriter = rewriter_in x₁ ws₁ in
         record {
-          said = finish-went x x₁ x₂ ws ws₁ ws₂ s (replace_net r.design s n) r.cache value-left f _
-              (ap (cell_done s c) (processed-as (processed.Value n x₁) e).0);
+          said = finish-went x x₁ x₂ ws ws₁ ws₂ s (replace_net r.design s n) r.cache cell-left f _
+              (ap (cell_done s c) (processed-as (processed.Value n) e));
         }
 
-  pub cell_full : (s : ℕ) (u : Full) → a ≡ processed.Full → RunsCell x s ws ws₁ c (Err u)
-  cell_full s u e =
-      let y : rewriting.Result = process_cell find_new_cell (rewriter_in x ws) c in
-      let k = processed-as processed.Full e in
-      record { said = (omega (arith, k.0, slots-cell s c y), k.1) }
+  pub cell_full : (s : ℕ) (e : Full) (y : Step) → Processes x x₁ ws ws₁ c (Err e) → IsErr y → RunsCell x x₁ s ws ws₁ c y
+  cell_full s e y p f =
+      let z : rewriting.Result = process_cell find_new_cell (rewriter_in x ws) c in
+      let k : (1024 < slots_after z) × Within 0 keys_from ws ws₁ = processed-said (Err e) p in
+      no_slot (RunsCell x x₁ s ws ws₁ c) (λ u. record { said = (omega (arith, k.0, slots-cell s c z), k.1) }) y f
 
 -- the ticket's slots are counted
 pub tickets-are : (x : Extent) (ws : List ℕ) (cs : List Cell) (before : List ℕ) → State cs before (rewriter_in x ws) → length cs ≡ x.tickets
@@ -233,9 +211,6 @@ mapped-is x ws s h r y c e₁ e₂ e₃ =
 
 -- one item
 module _ (x : Extent) (s : ℕ) (ws : List ℕ) (g : ReadyItem x s ws) where
-  pub item-slot : s < x.slots
-  item-slot = omega (arith, g.slot.small, g.running.held.many)
-
   abbrev r : Rewriter
   r = rewriter_in x ws
 
@@ -263,7 +238,7 @@ module _ (x : Extent) (s : ℕ) (ws : List ℕ) (g : ReadyItem x s ws) where
             c-settled cs g.wired before s inside g.new g.fed r (λ few. g.running.state) (ap has_effects (sym c-is) ∙ sym b-is ∙ e)
             (held-few x ws g.running.held)
 
-    pub item-effects : b ≡ true → RunsItem x s ws ws (Ok x)
+    pub item-effects : b ≡ true → RunsItem x x s ws ws (Ok tt)
     item-effects e = record {
       said = record {
         now = item_by find_new_cell s r (λ z. z ≡ ran r) (λ b f. never effects f)
@@ -277,14 +252,14 @@ module _ (x : Extent) (s : ℕ) (ws : List ℕ) (g : ReadyItem x s ws) where
         effects = ap has_effects (sym c-is) ∙ sym b-is ∙ e
 
   module _ (c : Cell) (c-is : c ≡ visit_mut (map_net_new (rewriter_in x ws).design.replaced) (cell_in (rewriter_in x ws).design.cells s)) (b : Bool) (b-is : b ≡ is_splittable c)
-      (ws' : List ℕ) (y : Step) where
-    pub item-bit : b ≡ true → RunsBit x s ws ws' c y → RunsItem x s ws ws' y
+      (x' : Extent) (ws' : List ℕ) (y : Step) where
+    pub item-bit : b ≡ true → RunsBit x x' s ws ws' c y → RunsItem x x' s ws ws' y
     unfolding run_item
-    item-bit e k = record { said = subst (λ (z : Run). Goes 1 x ws ws' z y) (rw (← c-is, ← b-is, e)) k.said }
+    item-bit e k = record { said = subst (λ (z : Run). Goes 1 x x' ws ws' z y) (rw (← c-is, ← b-is, e)) k.said }
 
-    pub item-cell : b ≡ false → RunsCell x s ws ws' c y → RunsItem x s ws ws' y
+    pub item-cell : b ≡ false → RunsCell x x' s ws ws' c y → RunsItem x x' s ws ws' y
     unfolding run_item
-    item-cell e k = record { said = subst (λ (z : Run). Goes 1 x ws ws' z y) (rw (← c-is, ← b-is, e)) k.said }
+    item-cell e k = record { said = subst (λ (z : Run). Goes 1 x x' ws ws' z y) (rw (← c-is, ← b-is, e)) k.said }
 
 -- a list that is cut at an item
 pub table-cut : (f : ℕ → ℕ) (k j : ℕ) → j < k → (rest : List ℕ) × (tabulate f k ≡ tabulate f j ++ (f j ∷ rest))
@@ -337,11 +312,6 @@ module _ (x₀ : Extent) (k : ℕ) (ws₀ ws : List ℕ) (x : Extent) (j : ℕ) 
   abbrev done : List ℕ
   done = words_in order_at j ws₀
 
-  pub rolling-end : k ≤ j → RunsItems x₀ k ws₀ ws (Ok x)
-  rolling-end h =
-      let e : j ≡ k = let l : j ≤ k = g.upto in omega arith in
-      record { said = subst (λ (i : ℕ). Went i x₀ x ws₀ ws (run_items find_new_cell (words_in order_at i ws₀) (rewriter_in x₀ ws₀))) e g.went }
-
   module _ (l : j < k) where
     cut : (rest : List ℕ) × (words_in order_at k ws₀ ≡ done ++ (item ∷ rest))
     unfolding words_in
@@ -391,12 +361,12 @@ module _ (x₀ : Extent) (k : ℕ) (ws₀ ws : List ℕ) (x : Extent) (j : ℕ) 
       unfolding words_in tabulate
       one_more = ap (tabulate (λ i. get_or ws₀ (order_at + i) 0)) (let e : j + 1 ≡ suc j = omega arith in e)
 
-      item-said : (ws' : List ℕ) (y : Step) → RunsItem x s ws ws' y → Goes 1 x ws ws' (run_item find_new_cell item (rewriter_in x ws)) y
-      item-said ws' y p = subst (λ (i : ℕ). Goes 1 x ws ws' (run_item find_new_cell i (rewriter_in x ws)) y) is-item p.said
+      item-said : (x' : Extent) (ws' : List ℕ) (y : Step) → RunsItem x x' s ws ws' y → Goes 1 x x' ws ws' (run_item find_new_cell item (rewriter_in x ws)) y
+      item-said x' ws' y p = subst (λ (i : ℕ). Goes 1 x x' ws ws' (run_item find_new_cell i (rewriter_in x ws)) y) is-item p.said
 
-      pub rolling-more : (ws' : List ℕ) (x' : Extent) → RunsItem x s ws ws' (Ok x') → Rolling x₀ k ws₀ ws' x' (j + 1)
-      rolling-more ws' x' p =
-          let w : Went 1 x x' ws ws' (run_item find_new_cell item (rewriter_in x ws)) = item-said ws' (Ok x') p in
+      pub rolling-more : (x' : Extent) (ws' : List ℕ) (u : Unit {0}) → RunsItem x x' s ws ws' (Ok u) → Rolling x₀ k ws₀ ws' x' (j + 1)
+      rolling-more x' ws' u p =
+          let w : Went 1 x x' ws ws' (run_item find_new_cell item (rewriter_in x ws)) = item-said x' ws' (Ok u) p in
           record {
             ready = g.ready;
             upto = omega arith;
@@ -415,10 +385,10 @@ module _ (x₀ : Extent) (k : ℕ) (ws₀ ws : List ℕ) (x : Extent) (j : ℕ) 
               (item_ok g.ready.ticket g.ready.wired done item item-small item-new item-fed (rewriter_in x ws) (λ few. g.state))
               (held-few x' ws' w.left.held)
 
-      pub rolling-full : (ws' : List ℕ) (e : Full) (y : Step) → RunsItem x s ws ws' (Err e) → IsErr y → RunsItems x₀ k ws₀ ws' y
-      rolling-full ws' e y p f =
-          let q : (1024 < slots_of (run_item find_new_cell item (rewriter_in x ws))) × Within 0 keys_from ws ws' = item-said ws' (Err e) p in
-          no_slot (RunsItems x₀ k ws₀ ws') (λ u. record {
+      pub rolling-full : (x' : Extent) (ws' : List ℕ) (e : Full) (y : Step) → RunsItem x x' s ws ws' (Err e) → IsErr y → RunsItems x₀ x' k ws₀ ws' y
+      rolling-full x' ws' e y p f =
+          let q : (1024 < slots_of (run_item find_new_cell item (rewriter_in x ws))) × Within 0 keys_from ws ws' = item-said x' ws' (Err e) p in
+          no_slot (RunsItems x₀ x' k ws₀ ws') (λ u. record {
             said = (
               subst (λ (z : Run). 1024 < slots_of z) (sym whole)
                   (omega (arith, q.0, after-slots find_new_cell (length g.ready.ticket) cut.0 rest-small (run_item find_new_cell item (rewriter_in x ws)))),

@@ -1,4 +1,3 @@
-pub mod NoSlot
 pub mod Items
 pub mod Applying
 pub mod Runs

@@ -35,10 +35,10 @@ use Rattle.rewrite_laws.proofs.Running.{RunOk, begun-state}
 use Rattle.rewrite_laws.specs.State.{State}
 use Rattle.accepted_laws.proofs.Accepted.{accepted-wired, accepted-each, accepted-fed, accepted-run}
 use Rattle.rewriter_state.specs.declared.Extent.{Extent}
-use Rattle.rewriter.specs.declared.Full.{Full}
+use Rattle.rewriter_state.specs.declared.Full.{Full}
 use Rattle.std.proofs.Common.{Result, Ok, Err}
 use Rattle.std.specs.Result.{IsErr}
-use Rattle.rewriter.proofs.NoSlot.{no_slot}
+use Rattle.rewriter_state.proofs.NoSlot.{no_slot}
 use Rattle.rewriter_state.specs.inner.Words.{rewriter_in, Held, ClearsStamps}
 use Rattle.rewriter_cycle.specs.inner.Cycle.{Running}
 use Rattle.rewriter_cycle.proofs.Passes.{held-few}
@@ -156,12 +156,12 @@ module _ (n : ℕ) (ws₀ ws₃ : List ℕ) (count : ℕ) (b : Begins n ws₀ ws
       ∙ ap (run_items find_new_cell (words_in order_at count ws₃)) (sym b.state)
 
   module _ (ws₄ : List ℕ) where
-    pub run-full : (e : Full) (r : Result ℕ Full) → RunsItems (record { tickets = n; slots = n; entries = 0; clock = 0 }) count ws₃ ws₄ (Err e) → IsErr r → Rewrites n ws₀ ws₄ r
-    run-full e r p f =
+    pub run-full : (x : Extent) (e : Full) (r : Result ℕ Full) → RunsItems (record { tickets = n; slots = n; entries = 0; clock = 0 }) x count ws₃ ws₄ (Err e) → IsErr r → Rewrites n ws₀ ws₄ r
+    run-full x e r p f =
         let k = p.said in
         no_slot (Rewrites n ws₀ ws₄) (λ u. (subst (λ (z : Run). 1024 < slots_of z) (sym run_is) k.0, within-then 0 keys_from ws₀ ws₃ ws₄ b.frame k.1)) r f
 
-    module _ (x : Extent) (p : RunsItems (record { tickets = n; slots = n; entries = 0; clock = 0 }) count ws₃ ws₄ (Ok x)) where
+    module _ (x : Extent) (u : Unit {0}) (p : RunsItems (record { tickets = n; slots = n; entries = 0; clock = 0 }) x count ws₃ ws₄ (Ok u)) where
       went : Went count (first n) x ws₃ ws₄ (run_items find_new_cell (words_in order_at count ws₃) (rewriter_in (first n) ws₃))
       went = p.said
 

@@ -2,7 +2,3 @@
 #![tactic(auto)]
 
 pub mod run;
-
-// Rewriting needs more slots than there are.
-#[derive(Clone, Copy)]
-pub struct Full;

@@ -10,11 +10,10 @@ ghost use Rattle.rewriter_state.specs.inner.Words.{rewriter_in};
 ghost use Rattle.rewriter_cycle.specs.inner.Cycle.{Running};
 ghost use Rattle.rewriter.specs.inner.Run.{ReadyCell, ReadyItem, ReadyItems, RunsBit, RunsCell, RunsItem, RunsItems, AppliesAll, Begins, Rewrites};
 
-use crate::Full;
 use cell::Cell;
 use netlist::area;
 use rewriter_cycle::Processed;
-use rewriter_state::{Added, Extent};
+use rewriter_state::{Extent, Full};
 use value::Slot;
 
 fn is_splittable(c: Cell) -> bool
@@ -33,36 +32,35 @@ fn mapped_cell(work: &[u32], x: Extent, s: Slot) -> Cell
 }
 
 // A bit of a gate that is cut into bits: it is added anew.
-fn run_bit(work: &mut [u32], x: Extent, s: Slot, c: Cell) -> Result<Extent, Full>
-    requires { ReadyCell x s.0 work.old c }
-    ensures { RunsBit x s.0 work.old work.new c result }
+fn run_bit(work: &mut [u32], x: &mut Extent, s: Slot, c: Cell) -> Result<(), Full>
+    requires { ReadyCell x.old s.0 work.old c }
+    ensures { RunsBit x.old x.new s.0 work.old work.new c result }
 {
-    match rewriter_cycle::add_cell(work, x, c) {
-        Added::At(n, y) => Ok(rewriter_state::replace(work, y, s, n)),
-        Added::Full => Err(Full),
-    }
+    let n = rewriter_cycle::add_cell(work, x, c)?;
+    rewriter_state::replace(work, x, s, n);
+    Ok(())
 }
 
 // An and-inverter: it is rewritten in its slot.
-fn run_cell(work: &mut [u32], x: Extent, s: Slot, c: Cell) -> Result<Extent, Full>
-    requires { ReadyCell x s.0 work.old c }
-    ensures { RunsCell x s.0 work.old work.new c result }
+fn run_cell(work: &mut [u32], x: &mut Extent, s: Slot, c: Cell) -> Result<(), Full>
+    requires { ReadyCell x.old s.0 work.old c }
+    ensures { RunsCell x.old x.new s.0 work.old work.new c result }
 {
-    match rewriter_cycle::process_cell(work, x, c) {
-        Processed::None(y) => Ok(rewriter_state::stay(work, y, s, c)),
-        Processed::Cell(d, y) => Ok(rewriter_state::become_cell(work, y, s, d)),
-        Processed::Value(n, y) => Ok(rewriter_state::replace(work, y, s, n)),
-        Processed::Full => Err(Full),
+    match rewriter_cycle::process_cell(work, x, c)? {
+        Processed::None => rewriter_state::stay(work, x, s, c),
+        Processed::Cell(d) => rewriter_state::become_cell(work, x, s, d),
+        Processed::Value(n) => rewriter_state::replace(work, x, s, n),
     }
+    Ok(())
 }
 
-fn run_item(work: &mut [u32], x: Extent, s: Slot) -> Result<Extent, Full>
-    requires { ReadyItem x s.0 work.old }
-    ensures { RunsItem x s.0 work.old work.new result }
+fn run_item(work: &mut [u32], x: &mut Extent, s: Slot) -> Result<(), Full>
+    requires { ReadyItem x.old s.0 work.old }
+    ensures { RunsItem x.old x.new s.0 work.old work.new result }
 {
-    let c = mapped_cell(work, x, s);
+    let c = mapped_cell(work, *x, s);
     if netlist::has_effects(c) {
-        return Ok(x);
+        return Ok(());
     }
     if is_splittable(c) {
         return run_bit(work, x, s, c);
@@ -70,17 +68,16 @@ fn run_item(work: &mut [u32], x: Extent, s: Slot) -> Result<Extent, Full>
     run_cell(work, x, s, c)
 }
 
-// The items whose slots stand in the order area.
-fn run_items(work: &mut [u32], begun: Extent, count: u32) -> Result<Extent, Full>
-    requires { ReadyItems begun count work.old }
-    ensures { RunsItems begun count work.old work.new result }
+// The items whose slots stand in the order area; by index, as `levels::fold`.
+fn run_items(work: &mut [u32], x: &mut Extent, count: u32) -> Result<(), Full>
+    requires { ReadyItems x.old count work.old }
+    ensures { RunsItems x.old x.new count work.old work.new result }
 {
-    let mut x = begun;
     for j in 0..count {
-        let s = basics::get_or(work, area::ORDER + (j as usize), 0);
-        x = run_item(work, x, Slot(s))?;
+        let s = area::ORDER.get(work, Slot(j));
+        run_item(work, x, Slot(s))?;
     }
-    Ok(x)
+    Ok(())
 }
 
 // Puts the replacements into all slots.
@@ -112,13 +109,13 @@ pub fn rewrite(work: &mut [u32], n: u32) -> Result<u32, Full>
     ensures { Rewrites n work.old work.new result }
 {
     let count = begin(work, n);
-    let first = Extent {
+    let mut x = Extent {
         tickets: n,
         slots: n,
         entries: 0,
         clock: 0,
     };
-    let x = run_items(work, first, count)?;
+    run_items(work, &mut x, count)?;
     apply_all(work, x);
     Ok(x.slots)
 }

@@ -1,7 +1,6 @@
--- The rules for a cell, by what its operands are looked up as, and which of them add a cell. Assumes nothing.
-use mathlib.Core.Path.{◌≡◌, refl, sym, ap, ap₂, ◌∙◌}
+-- Which rules add a cell: `Normalize` and those for inverters none; those for and-inverters and xors none but for its inverse. Assumes nothing.
+use mathlib.Core.Path.{◌≡◌, refl, sym, ap, ◌∙◌}
 use mathlib.Core.Bool.{Bool, true, false, cond, not, true≢false}
-use Prim.Native.Nat.{ℕ}
 use Rattle.value.specs.declared.Net.{Net}
 use Rattle.value.specs.declared.ControlNet.{ControlNet}
 use Rattle.value.specs.declared.ControlNet.TheVariants.{Pos, Neg}
@@ -18,47 +17,15 @@ use Rattle.aig.specs.Aig.{differ, not_rule, xor_of, aig_order, aig_rule, xor_ord
 use Rattle.aig_laws.proofs.Strings.{has-or_else, has-given}
 use Rattle.aig_laws.specs.Arms.{NotArm, not_none, not_zero, not_one, not_undef, not_not, AigArm, aig_none, aig_same, aig_opposite, aig_zero, aig_one, aig_not, and_same, and_opposite, and_and_same, and_and_opposite, nand_same, nand_opposite, nand_and_same, nand_and_opposite, nand_nand_same, nand_nand_opposite, xor_on, xor_and_on, XorArm, xor_none, xor_same, xor_undef, xor_zero, xor_one, xor_not, xor_with_and, xor_nand, xor_with_xor, xor_both}
 use Rattle.aig_laws.proofs.Arms.{not_arm, aig_arm, xor_arm}
-use Rattle.rewriter_cycle.specs.inner.Cycle.{adds}
 
--- `SimpleAigOpt` for each kind
-module _ (look : Net → Source) where
-  pub not-arm : (a : Net) (src : Source) → src ≡ look a → (o : Outcome) → o ≡ not_rule src a → o ≡ simple_aig_opt look (Not a)
-  unfolding simple_aig_opt
-  not-arm a src f o q = q ∙ ap (λ (v : Source). not_rule v a) f
-
-  pub aig-arm : (p q : ControlNet) (a : Net) → a ≡ net p → (src1 : Source) → src1 ≡ look a → (b : Net) → b ≡ net q → (src2 : Source) → src2 ≡ look b
-      → (o : Outcome) → o ≡ aig_rule src1 src2 p q → o ≡ simple_aig_opt look (Aig p q)
-  unfolding simple_aig_opt
-  aig-arm p q a a-is src1 f b b-is src2 g o h = h ∙ ap₂ (λ (v w : Source). aig_rule v w p q) (f ∙ ap look a-is) (g ∙ ap look b-is)
-
-  pub xor-arm : (a b : Net) (src1 : Source) → src1 ≡ look a → (src2 : Source) → src2 ≡ look b → (o : Outcome) → o ≡ xor_rule src1 src2 a b
-      → o ≡ simple_aig_opt look (Xor a b)
-  unfolding simple_aig_opt
-  xor-arm a b src1 f src2 g o h = h ∙ ap₂ (λ (v w : Source). xor_rule v w a b) f g
-
-  pub and-arm : (a b : Net) → simple_aig_opt look (And a b) ≡ Some (Add (Aig (Pos a) (Pos b)))
-  unfolding simple_aig_opt
-  and-arm a b = refl
-
-  pub or-arm : (a b : Net) → simple_aig_opt look (Or a b) ≡ Some (AddNotOf (Aig (Neg a) (Neg b)))
-  unfolding simple_aig_opt
-  or-arm a b = refl
-
-  pub input-arm : (l : ℕ) → simple_aig_opt look (Input l) ≡ None
-  unfolding simple_aig_opt
-  input-arm l = refl
-
-  pub output-arm : (a : Net) (l : ℕ) → simple_aig_opt look (Output a l) ≡ None
-  unfolding simple_aig_opt
-  output-arm a l = refl
-
-  pub buf-arm : (a : Net) → simple_aig_opt look (Buf a) ≡ None
-  unfolding simple_aig_opt
-  buf-arm a = refl
-
-  pub mux-arm : (s a b : Net) → simple_aig_opt look (Mux s a b) ≡ None
-  unfolding simple_aig_opt
-  mux-arm s a b = refl
+-- whether an outcome adds a cell
+abbrev pub adds : Outcome → Bool
+adds None = false
+adds (Some (Value n)) = false
+adds (Some (Form c)) = false
+adds (Some (Add c)) = true
+adds (Some (NotOf c)) = true
+adds (Some (AddNotOf c)) = true
 
 -- `Normalize` and the rules for inverters add no cell
 abbrev Unadding : Outcome → Type 0

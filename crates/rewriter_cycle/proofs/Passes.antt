@@ -1,26 +1,29 @@
 -- The laws of the cycle of rules and adder: what each of its members may ask of another, and what it gives where it returns. Assumes nothing.
 use mathlib.Core.Path.{◌≡◌, refl, sym, ap, ◌∙◌, subst}
-use mathlib.Core.Bool.{Bool, true, false, true≢false}
+use mathlib.Core.Bool.{false, true≢false}
 use mathlib.Core.List.{List, [], ◌∷◌}
 use Prim.Native.Nat.{ℕ, zero, suc, ◌+◌, ◌*◌, ◌≤◌, ◌<◌}
 use native.Mathlib.Omega.{arith}
 use lib.ListN.{length, length-append}
 use Rattle.value.specs.declared.Net.{Net}
+use Rattle.value.specs.declared.ControlNet.{ControlNet}
 use Rattle.value.specs.declared.ControlNet.TheVariants.{Pos, Neg}
 use Rattle.value.specs.Value.{UNDEF, ZERO, ONE}
 use Rattle.cell.specs.declared.Cell.{Cell}
-use Rattle.cell.specs.declared.Cell.TheVariants.{Input, Output, Buf, Not, And, Or, Mux, Aig}
+use Rattle.cell.specs.declared.Cell.TheVariants.{Input, Output, Buf, Not, And, Or, Xor, Mux, Aig}
 use Rattle.netlist.specs.inner.Areas.{Within, keys_from}
 use Rattle.netlist.proofs.Frames.{within-then}
 use Rattle.design.specs.Queue.{net_in, find_new_cell, Source}
 use Rattle.numberer.specs.Numberer.{seek}
 use Rattle.design.proofs.Words.{cells-length}
-use Rattle.std.specs.Prelude.{None, Some, Option}
+use Rattle.std.specs.Prelude.{None, Some, Option, Result, Ok, Err}
+use Rattle.std.specs.Result.{IsErr}
+use Rattle.normalize.specs.declared.Change.{Change}
 use Rattle.normalize.specs.declared.Change.TheVariants.{Value, Form, Add, NotOf, AddNotOf}
 use Rattle.normalize.specs.Outcomes.{◌or_else◌, first_change, Outcome}
 use Rattle.normalize.specs.Normalize.{normalize}
 use Rattle.normalize.proofs.First.{none-or_else}
-use Rattle.aig.specs.Aig.{not_rule}
+use Rattle.aig.specs.Aig.{not_rule, simple_aig_opt}
 use Rattle.rewrite.specs.Rewriter.{Rewriter, weight, find_cell, entered}
 use Rattle.rewrite.specs.Rewrite.{rules, process}
 use Rattle.rewrite.specs.Rewrite as rewriting
@@ -36,23 +39,16 @@ use Rattle.rewrite_laws.proofs.Settled.{stamped, settled-constants, found-settle
 use Rattle.rewrite_laws.proofs.Items.{FewSlots}
 use Rattle.rewrite_laws.proofs.Keeping.{P, Q, N, keeping}
 use Rattle.rewriter_state.specs.declared.Extent.{Extent}
-use Rattle.rewriter_state.specs.declared.Added.{Added}
-use Rattle.rewriter_state.specs.declared.Added.TheVariants as added
+use Rattle.rewriter_state.specs.declared.Full.{Full}
+use Rattle.rewriter_state.proofs.NoSlot.{no_slot}
 use Rattle.rewriter_cycle.specs.declared.Processed.{Processed}
 use Rattle.rewriter_cycle.specs.declared.Processed.TheVariants as processed
 use Rattle.rewriter_state.specs.inner.Words.{rewriter_in, Held, Enters}
-use Rattle.rewriter_cycle.specs.inner.Cycle.{as_value_of, as_not_of, adds, unadded_of, found_of, asked_of, form_of, opted, ruled, slots_after, slots_added, Left, Answers, AnswersAdd, Ready, Performs, Processes, Adds}
-use Rattle.rewriter_cycle.proofs.Arms.{not-arm, and-arm, or-arm, input-arm, output-arm, buf-arm, mux-arm, not-adds}
+use Rattle.rewriter_cycle.proofs.Arms.{adds, not-adds}
+use Rattle.rewriter_cycle.specs.inner.Cycle.{unadded_of, opted, ruled, slots_after, slots_added, result_of, Left, Answers, AnswersAdd, Ready, Performs, Processes, Adds}
 
--- the words after a step, and after two
-pub left-same : (x : Extent) (ws : List ℕ) → Held x ws → Left x x ws ws
-left-same x ws h = record {
-  held = h;
-  onward = record { tickets = refl; slots = omega arith; clock = refl };
-  changes = record { bits = λ i l. refl; between = λ i l m. refl; after = λ i l. refl; same = refl };
-}
-
-pub left-on : (x y z : Extent) (ws ws' ws'' : List ℕ) → Left x y ws ws' → Left y z ws' ws'' → Left x z ws ws''
+-- the words after two steps
+left-on : (x y z : Extent) (ws ws' ws'' : List ℕ) → Left x y ws ws' → Left y z ws' ws'' → Left x z ws ws''
 left-on x y z ws ws' ws'' a b = record {
   held = b.held;
   onward = record {
@@ -68,7 +64,7 @@ left-on x y z ws ws' ws'' a b = record {
   };
 }
 
-pub left-within : (x y : Extent) (ws ws' : List ℕ) → Left x y ws ws' → Within 0 keys_from ws ws'
+left-within : (x y : Extent) (ws ws' : List ℕ) → Left x y ws ws' → Within 0 keys_from ws ws'
 left-within x y ws ws' l = record { before = λ i h. absurd (omega arith); after = l.changes.after; same = l.changes.same }
 
 -- the slots that an answer has taken
@@ -76,62 +72,65 @@ value-slots : (y : rewriting.Added) → slots_after (rewriting.as_value y) ≡ s
 value-slots (rewriting.at n r) = refl
 value-slots (rewriting.unadded r) = refl
 
-not-slots : (y : rewriting.Added) → slots_after (rewriting.as_not y) ≡ slots_added y
-not-slots (rewriting.at n r) = refl
-not-slots (rewriting.unadded r) = refl
-
 replacing-slots : (d : Cell) (y : rewriting.Result) → slots_after (rewriting.replacing d y) ≡ slots_after y
 replacing-slots d (rewriting.none r) = refl
 replacing-slots d (rewriting.cell c r) = refl
 replacing-slots d (rewriting.value n r) = refl
 replacing-slots d (rewriting.spent r) = refl
 
--- an answer passed on
-module _ (x : Extent) (ws ws' : List ℕ) where
-  value-answers : (a : Added) (y : rewriting.Added) → AnswersAdd x ws ws' a y → Answers x ws ws' (as_value_of a) (rewriting.as_value y)
-  value-answers (added.At n x') y h = (ap rewriting.as_value h.0, h.1)
-  value-answers added.Full y h = (omega (arith, h.0, value-slots y), h.1)
+-- what is left of a form, where l is left of what it is a form of
+abbrev pub form_of : Processed → Processed → Processed
+form_of l processed.None = l
+form_of l (processed.Cell c) = processed.Cell c
+form_of l (processed.Value n) = processed.Value n
 
-  not-answers : (a : Added) (y : rewriting.Added) → AnswersAdd x ws ws' a y → Answers x ws ws' (as_not_of a) (rewriting.as_not y)
-  not-answers (added.At n x') y h = (ap rewriting.as_not h.0, h.1)
-  not-answers added.Full y h = (omega (arith, h.0, not-slots y), h.1)
+abbrev pub formed : Processed → Result Processed Full → Result Processed Full
+formed l (Ok p) = Ok (form_of l p)
+formed l (Err e) = Err e
 
-  replacing-answers : (d : Cell) (p : Processed) (y : rewriting.Result) → Answers x ws ws' p y → Answers x ws ws' (form_of true d p) (rewriting.replacing d y)
-  replacing-answers d (processed.None x') y h = (ap (rewriting.replacing d) h.0, h.1)
-  replacing-answers d (processed.Cell c x') y h = (ap (rewriting.replacing d) h.0, h.1)
-  replacing-answers d (processed.Value n x') y h = (ap (rewriting.replacing d) h.0, h.1)
-  replacing-answers d processed.Full y h = (omega (arith, h.0, replacing-slots d y), h.1)
+replacing-of : (d : Cell) (p : Processed) (r : Rewriter) → rewriting.replacing d (result_of p r) ≡ result_of (form_of (processed.Cell d) p) r
+replacing-of d processed.None r = refl
+replacing-of d (processed.Cell c) r = refl
+replacing-of d (processed.Value n) r = refl
+
+replacing-answers : (x x' : Extent) (ws ws' : List ℕ) (d : Cell) (q : Result Processed Full) (y : rewriting.Result) → Answers x x' ws ws' q y
+    → Answers x x' ws ws' (formed (processed.Cell d) q) (rewriting.replacing d y)
+replacing-answers x x' ws ws' d (Ok p) y h = (ap (rewriting.replacing d) h.0 ∙ replacing-of d p (rewriter_in x' ws'), h.1)
+replacing-answers x x' ws ws' d (Err e) y h = (omega (arith, h.0, replacing-slots d y), h.1)
 
 -- an answer from words that a step left
-answers-on : (x y : Extent) (ws ws' ws'' : List ℕ) → Left x y ws ws' → (p : Processed) (z : rewriting.Result) → Answers y ws' ws'' p z → Answers x ws ws'' p z
-answers-on x y ws ws' ws'' l (processed.None x') z h = (h.0, left-on x y x' ws ws' ws'' l h.1)
-answers-on x y ws ws' ws'' l (processed.Cell c x') z h = (h.0, left-on x y x' ws ws' ws'' l h.1)
-answers-on x y ws ws' ws'' l (processed.Value n x') z h = (h.0, left-on x y x' ws ws' ws'' l h.1)
-answers-on x y ws ws' ws'' l processed.Full z h = (h.0, within-then 0 keys_from ws ws' ws'' (left-within x y ws ws' l) h.1)
+answers-on : (x y z : Extent) (ws ws' ws'' : List ℕ) → Left x y ws ws' → (q : Result Processed Full) (v : rewriting.Result) → Answers y z ws' ws'' q v
+    → Answers x z ws ws'' q v
+answers-on x y z ws ws' ws'' l (Ok p) v h = (h.0, left-on x y z ws ws' ws'' l h.1)
+answers-on x y z ws ws' ws'' l (Err e) v h = (h.0, within-then 0 keys_from ws ws' ws'' (left-within x y ws ws' l) h.1)
 
--- the cache was asked
-found-answers : (x y : Extent) (ws ws' : List ℕ) (f : Option Net) → Left x y ws ws' → Answers x ws ws' (found_of y f) (rewriting.asked (rewriter_in y ws') f)
-found-answers x y ws ws' (Some n) l = (refl, l)
-found-answers x y ws ws' None l = (refl, l)
+-- what the cache has
+abbrev pub found_of : Option Net → Processed
+found_of (Some n) = processed.Value n
+found_of None = processed.None
 
-pub asked-found : (x : Extent) (ws : List ℕ) (c : Cell) (u : Option Net) (n : Net) → u ≡ seek (rewriter_in x ws).cache c → u ≡ Some n → processed.Value n x ≡ asked_of x ws c
-asked-found x ws c u n e f = ap (found_of x) (sym f ∙ e)
-
-pub asked-new : (x : Extent) (ws : List ℕ) (c : Cell) (u : Option Net) → u ≡ seek (rewriter_in x ws).cache c → u ≡ None → processed.None x ≡ asked_of x ws c
-asked-new x ws c u e f = ap (found_of x) (sym f ∙ e)
+found-result : (f : Option Net) (r : Rewriter) → result_of (found_of f) r ≡ rewriting.asked r f
+found-result (Some n) r = refl
+found-result None r = refl
 
 -- a form of a form
-form-false : (d : Cell) (p : Processed) → form_of false d p ≡ p
-form-false d (processed.None x) = refl
-form-false d (processed.Cell c x) = refl
-form-false d (processed.Value n x) = refl
-form-false d processed.Full = refl
+form-none : (p : Processed) → form_of processed.None p ≡ p
+form-none processed.None = refl
+form-none (processed.Cell c) = refl
+form-none (processed.Value n) = refl
 
-form-form : (f : Bool) (d e : Cell) (p : Processed) → form_of f d (form_of true e p) ≡ form_of true e p
-form-form f d e (processed.None x) = refl
-form-form f d e (processed.Cell c x) = refl
-form-form f d e (processed.Value n x) = refl
-form-form f d e processed.Full = refl
+formed-none : (q : Result Processed Full) → formed processed.None q ≡ q
+formed-none (Ok p) = ap Ok (form-none p)
+formed-none (Err e) = refl
+
+form-form : (l : Processed) (e : Cell) (p : Processed) → form_of l (form_of (processed.Cell e) p) ≡ form_of (processed.Cell e) p
+form-form l e processed.None = refl
+form-form l e (processed.Cell c) = refl
+form-form l e (processed.Value n) = refl
+
+formed-form : (l : Processed) (e : Cell) (q : Result Processed Full) → formed l (formed (processed.Cell e) q) ≡ formed (processed.Cell e) q
+formed-form l e (Ok p) = ap Ok (form-form l e p)
+formed-form l e (Err u) = refl
 
 -- slots never become fewer
 abbrev again : ℕ → Rewriter → Cell → rewriting.Result
@@ -241,56 +240,53 @@ module _ (cs : List Cell) (before : List ℕ) where
       record { running = record { held = h; ticket = cs; before = before; state = p few }; gate = q few }
 
 -- adding a cell
-module _ (x : Extent) (ws ws' : List ℕ) (c : Cell) (p : Processed) (s : Processes x ws ws' c p) where
-  said-as : (q : Processed) → p ≡ q → (k : ℕ) → weight (rewriter_in x ws).stamps c < k → Answers x ws ws' q (again k (rewriter_in x ws) c)
-  said-as q e k h = subst (λ p. Answers x ws ws' p (again k (rewriter_in x ws) c)) e (s.said k h)
-
-  pub none-held : (y : Extent) → p ≡ processed.None y → Held y ws'
-  none-held y e = (said-as (processed.None y) e (suc (weight (rewriter_in x ws).stamps c)) (omega arith)).1.held
-
-  pub cell-held : (d : Cell) (y : Extent) → p ≡ processed.Cell d y → Held y ws'
-  cell-held d y e = (said-as (processed.Cell d y) e (suc (weight (rewriter_in x ws).stamps c)) (omega arith)).1.held
+module _ (x x' : Extent) (ws ws' : List ℕ) (c : Cell) (p : Processed) (s : Processes x x' ws ws' c (Ok p)) where
+  pub processed-held : Held x' ws'
+  processed-held = (s.said (suc (weight (rewriter_in x ws).stamps c)) (omega arith)).1.held
 
   -- a cell that is left is entered
-  entry-answers : (ws'' : List ℕ) (y : Extent) (d : Cell) (a : Added) (z : rewriting.Added) → Left x y ws ws' → Enters y ws' ws'' d a
-      → z ≡ rewriting.entry (rewriter_in y ws') d → AnswersAdd x ws ws'' a z
-  entry-answers ws'' y d (added.At n x') z l h e =
-      let m : net_in (slots_of (rewriter_in y ws')) ≡ n = ap net_in (held-slots y ws') ∙ sym h.at in (
-        e ∙ ap (λ n. rewriting.at n (entered (rewriter_in y ws') d n)) m ∙ ap (rewriting.at n) (sym h.now),
-        left-on x y x' ws ws' ws'' l (record { held = h.held; onward = h.onward; changes = h.changes }),
+  entry-answers : (x'' : Extent) (ws'' : List ℕ) (d : Cell) (a : Result Net Full) (z : rewriting.Added) → Left x x' ws ws' → Enters x' x'' ws' ws'' d a
+      → z ≡ rewriting.entry (rewriter_in x' ws') d → AnswersAdd x x'' ws ws'' a z
+  entry-answers x'' ws'' d (Ok n) z l h e =
+      let m : net_in (slots_of (rewriter_in x' ws')) ≡ n = ap net_in (held-slots x' ws') ∙ sym h.at in (
+        e ∙ ap (λ n. rewriting.at n (entered (rewriter_in x' ws') d n)) m ∙ ap (rewriting.at n) (sym h.now),
+        left-on x x' x'' ws ws' ws'' l (record { held = h.held; onward = h.onward; changes = h.changes }),
       )
-  entry-answers ws'' y d added.Full z l h e =
-      let m : slots_added z ≡ y.slots + 1 =
-      ap slots_added e ∙ entered-slots (rewriter_in y ws') d (net_in (slots_of (rewriter_in y ws'))) ∙ ap (λ k. k + 1) (held-slots y ws') in
-      (omega (arith, h.0, m), within-then 0 keys_from ws ws' ws'' (left-within x y ws ws' l) h.1)
+  entry-answers x'' ws'' d (Err u) z l h e =
+      let m : slots_added z ≡ x'.slots + 1 =
+      ap slots_added e ∙ entered-slots (rewriter_in x' ws') d (net_in (slots_of (rewriter_in x' ws'))) ∙ ap (λ k. k + 1) (held-slots x' ws') in
+      (omega (arith, h.0, m), within-then 0 keys_from ws ws' ws'' (left-within x x' ws ws' l) h.1)
 
-  pub add_none : (ws'' : List ℕ) (y : Extent) (a : Added) → p ≡ processed.None y → Enters y ws' ws'' c a → Adds x ws ws'' c a
-  add_none ws'' y a e h = record {
+  answered : (u : Processed) → p ≡ u → (k : ℕ) → weight (rewriter_in x ws).stamps c < k → Answers x x' ws ws' (Ok u) (again k (rewriter_in x ws) c)
+  answered u e k w = subst (λ u. Answers x x' ws ws' (Ok u) (again k (rewriter_in x ws) c)) e (s.said k w)
+
+  pub add_none : p ≡ processed.None → (x'' : Extent) (ws'' : List ℕ) (a : Result Net Full) → Enters x' x'' ws' ws'' c a → Adds x x'' ws ws'' c a
+  add_none e x'' ws'' a h = record {
     said = λ k w.
-        let q : Answers x ws ws' (processed.None y) (again k (rewriter_in x ws) c) = said-as (processed.None y) e k w in
-        entry-answers ws'' y c a (adder k (rewriter_in x ws) c) q.1 h (ap (rewriting.enter c) q.0);
+        let q : Answers x x' ws ws' (Ok processed.None) (again k (rewriter_in x ws) c) = answered processed.None e k w in
+        entry-answers x'' ws'' c a (adder k (rewriter_in x ws) c) q.1 h (ap (rewriting.enter c) q.0);
   }
 
-  pub add-cell : (ws'' : List ℕ) (d : Cell) (y : Extent) (a : Added) → p ≡ processed.Cell d y → Enters y ws' ws'' d a → Adds x ws ws'' c a
-  add-cell ws'' d y a e h = record {
+  pub add-cell : (d : Cell) → p ≡ processed.Cell d → (x'' : Extent) (ws'' : List ℕ) (a : Result Net Full) → Enters x' x'' ws' ws'' d a → Adds x x'' ws ws'' c a
+  add-cell d e x'' ws'' a h = record {
     said = λ k w.
-        let q : Answers x ws ws' (processed.Cell d y) (again k (rewriter_in x ws) c) = said-as (processed.Cell d y) e k w in
-        entry-answers ws'' y d a (adder k (rewriter_in x ws) c) q.1 h (ap (rewriting.enter c) q.0);
+        let q : Answers x x' ws ws' (Ok (processed.Cell d)) (again k (rewriter_in x ws) c) = answered (processed.Cell d) e k w in
+        entry-answers x'' ws'' d a (adder k (rewriter_in x ws) c) q.1 h (ap (rewriting.enter c) q.0);
   }
 
-  pub add-value : (n : Net) (y : Extent) → p ≡ processed.Value n y → Adds x ws ws' c (added.At n y)
-  add-value n y e = record {
+  pub add-value : (n : Net) → p ≡ processed.Value n → Adds x x' ws ws' c (Ok n)
+  add-value n e = record {
     said = λ k w.
-        let q : Answers x ws ws' (processed.Value n y) (again k (rewriter_in x ws) c) = said-as (processed.Value n y) e k w in
+        let q : Answers x x' ws ws' (Ok (processed.Value n)) (again k (rewriter_in x ws) c) = answered (processed.Value n) e k w in
         (ap (rewriting.enter c) q.0, q.1);
   }
 
-  pub add-full : p ≡ processed.Full → Adds x ws ws' c added.Full
-  add-full e = record {
-    said = λ k w.
-        let q : Answers x ws ws' processed.Full (again k (rewriter_in x ws) c) = said-as processed.Full e k w in
-        (omega (arith, q.0, enter-slots c (again k (rewriter_in x ws) c)), q.1);
-  }
+pub add-full : (x x' : Extent) (ws ws' : List ℕ) (c : Cell) (u : Full) → Processes x x' ws ws' c (Err u) → (a : Result Net Full) → IsErr a → Adds x x' ws ws' c a
+add-full x x' ws ws' c u s a f = no_slot (Adds x x' ws ws' c) (λ v. record {
+  said = λ k w.
+      let q : Answers x x' ws ws' (Err u) (again k (rewriter_in x ws) c) = s.said k w in
+      (omega (arith, q.0, enter-slots c (again k (rewriter_in x ws) c)), q.1);
+}) a f
 
 -- what the rules give for a cell
 module _ (x : Extent) (ws : List ℕ) (c : Cell) (g : Ready x ws c) where
@@ -303,9 +299,6 @@ module _ (x : Extent) (ws : List ℕ) (c : Cell) (g : Ready x ws c) where
   abbrev cs : List Cell
   cs = g.running.ticket
 
-  abbrev before : List ℕ
-  before = g.running.before
-
   abbrev S : Net → Type 0
   S = Settled cs ts
 
@@ -314,32 +307,36 @@ module _ (x : Extent) (ws : List ℕ) (c : Cell) (g : Ready x ws c) where
 
   -- a cell that `SimpleAigOpt` adds
   module _ (o : Outcome) (e : opted x ws c ≡ o) (d : Cell) where
-    added-ready : (GoodOutcome (GateOf S) S o → GateOf S d) → Ready x ws d
-    added-ready f =
+    added-gate : (GoodOutcome (GateOf S) S o → GateOf S d) → GateOf S d
+    added-gate f =
         let k : S UNDEF × S ZERO × S ONE = settled-constants cs ts in
-        let good : GoodOutcome (GateOf S) S (opted x ws c) =
-        simple-reads S k.0 k.1 k.2 (find_cell find_new_cell r) (found-settled cs r g.running.state.inv) c g.gate in
-        record { running = g.running; gate = f (subst (GoodOutcome (GateOf S) S) e good) }
+        f (subst (GoodOutcome (GateOf S) S) e (simple-reads S k.0 k.1 k.2 (find_cell find_new_cell r) (found-settled cs r g.running.state.inv) c g.gate))
 
     added-lighter : (Lighter ts (weight ts c) o → weight ts d < weight ts c) → weight ts d < weight ts c
     added-lighter f = f (subst (Lighter ts (weight ts c)) e (simple-falls find_new_cell r (stamped cs r g.running.state.inv) c))
 
 -- an outcome carried out
-module _ (x : Extent) (ws ws' : List ℕ) (o u : Outcome) (e : o ≡ u) (p q : Processed) (f : p ≡ q) where
-  performs-by : ((k : ℕ) → Lighter (rewriter_in x ws).stamps k u → Answers x ws ws' q (rewriting.perform (adder k) (rewriter_in x ws) u)) → Performs x ws ws' o p
-  performs-by h = record {
+module _ (x x' : Extent) (ws ws' : List ℕ) (o u : Outcome) (e : o ≡ u) where
+  performs-by : (q : Result Processed Full)
+      → ((k : ℕ) → Lighter (rewriter_in x ws).stamps k u → Answers x x' ws ws' q (rewriting.perform (adder k) (rewriter_in x ws) u)) → Performs x x' ws ws' o q
+  performs-by q h = record {
     said = λ k l.
-        subst (λ o. Answers x ws ws' p (rewriting.perform (adder k) (rewriter_in x ws) o)) (sym e)
-        (subst (λ p. Answers x ws ws' p (rewriting.perform (adder k) (rewriter_in x ws) u)) (sym f)
-        (h k (subst (Lighter (rewriter_in x ws).stamps k) e l)));
+        subst (λ o. Answers x x' ws ws' q (rewriting.perform (adder k) (rewriter_in x ws) o)) (sym e) (h k (subst (Lighter (rewriter_in x ws).stamps k) e l));
   }
 
-performs-same : (x : Extent) (ws ws' : List ℕ) (o u : Outcome) (p : Processed) → o ≡ u → Performs x ws ws' u p → Performs x ws ws' o p
-performs-same x ws ws' o u p e s = performs-by x ws ws' o u e p p refl s.said
+  performs-same : (q : Result Processed Full) → Performs x x' ws ws' u q → Performs x x' ws ws' o q
+  performs-same q s = performs-by q s.said
 
 -- without a cell added
+left-same : (x : Extent) (ws : List ℕ) → Held x ws → Left x x ws ws
+left-same x ws h = record {
+  held = h;
+  onward = record { tickets = refl; slots = omega arith; clock = refl };
+  changes = record { bits = λ i l. refl; between = λ i l m. refl; after = λ i l. refl; same = refl };
+}
+
 unadded-answers : (x : Extent) (ws : List ℕ) → Held x ws → (k : ℕ) (o : Outcome) → adds o ≡ false
-    → Answers x ws ws (unadded_of x o) (rewriting.perform (adder k) (rewriter_in x ws) o)
+    → Answers x x ws ws (Ok (unadded_of o)) (rewriting.perform (adder k) (rewriter_in x ws) o)
 unadded-answers x ws h k None e = (refl, left-same x ws h)
 unadded-answers x ws h k (Some (Value n)) e = (refl, left-same x ws h)
 unadded-answers x ws h k (Some (Form c)) e = (refl, left-same x ws h)
@@ -347,294 +344,268 @@ unadded-answers x ws h k (Some (Add c)) e = absurd (true≢false e)
 unadded-answers x ws h k (Some (NotOf c)) e = absurd (true≢false e)
 unadded-answers x ws h k (Some (AddNotOf c)) e = absurd (true≢false e)
 
-performs-unadded : (x : Extent) (ws : List ℕ) (o u : Outcome) (p : Processed) → Held x ws → o ≡ u → adds u ≡ false → p ≡ unadded_of x u → Performs x ws ws o p
-performs-unadded x ws o u p h e a f = performs-by x ws ws o u e p (unadded_of x u) f (λ k l. unadded-answers x ws h k u a)
+performs-unadded : (x : Extent) (ws : List ℕ) (c : Cell) → Ready x ws c → (o u : Outcome) → o ≡ u → adds u ≡ false → Performs x x ws ws o (Ok (unadded_of u))
+performs-unadded x ws c g o u e a = performs-by x x ws ws o u e (Ok (unadded_of u)) (λ k l. unadded-answers x ws g.running.held k u a)
 
--- by what the tests decide
-module _ (x : Extent) (ws : List ℕ) (c : Cell) (o : Outcome) where
-  decided : (u : Outcome) (p : Processed) → Ready x ws c → o ≡ u → o ≡ opted x ws c → adds u ≡ false → p ≡ unadded_of x u → Performs x ws ws (opted x ws c) p
-  decided u p g f e a q = performs-unadded x ws (opted x ws c) u p g.running.held (sym e ∙ f) a q
+-- what the tests of an arm decided
+pub decided : (o p : Outcome) (k l : Change) → o ≡ p → o ≡ Some k → k ≡ l → p ≡ Some l
+decided o p k l a e f = sym a ∙ e ∙ ap Some f
 
-  pub opted-none : o ≡ None → Ready x ws c → o ≡ opted x ws c → Performs x ws ws (opted x ws c) (processed.None x)
-  opted-none f g e = decided None (processed.None x) g f e refl refl
+module _ (x : Extent) (ws : List ℕ) (c : Cell) (g : Ready x ws c) where
+  -- with a cell added
+  module _ (d : Cell) where
+    -- its net
+    module _ (e : opted x ws c ≡ Some (Add d)) where
+      pub add-ready : Ready x ws d
+      add-ready = record { running = g.running; gate = added-gate x ws c g (Some (Add d)) e d (λ h. h) }
 
-  pub opted-value : (n : Net) → o ≡ Some (Value n) → Ready x ws c → o ≡ opted x ws c → Performs x ws ws (opted x ws c) (processed.Value n x)
-  opted-value n f g e = decided (Some (Value n)) (processed.Value n x) g f e refl refl
+      pub add-falls : (t : ℕ) → 8 * weight (rewriter_in x ws).stamps c ≡ t → 8 * weight (rewriter_in x ws).stamps d + 4 < t
+      add-falls t m = omega (arith, added-lighter x ws c g (Some (Add d)) e d (λ h. h))
 
-  pub opted-form : (d : Cell) → o ≡ Some (Form d) → Ready x ws c → o ≡ opted x ws c → Performs x ws ws (opted x ws c) (processed.Cell d x)
-  opted-form d f g e = decided (Some (Form d)) (processed.Cell d x) g f e refl refl
+      module _ (x' : Extent) (ws' : List ℕ) where
+        pub performs-add : (n : Net) → Adds x x' ws ws' d (Ok n) → Performs x x' ws ws' (opted x ws c) (Ok (processed.Value n))
+        performs-add n s = performs-by x x' ws ws' (opted x ws c) (Some (Add d)) e (Ok (processed.Value n)) (λ k l.
+            let h : AnswersAdd x x' ws ws' (Ok n) (adder k (rewriter_in x ws) d) = s.said k l in
+            (ap rewriting.as_value h.0, h.1))
 
-pub not-unadded : (x : Extent) (ws : List ℕ) (a : Net) (src : Source) (o : Outcome) (p : Processed) → p ≡ unadded_of x o → o ≡ not_rule src a
-    → src ≡ find_cell find_new_cell (rewriter_in x ws) a → p ≡ unadded_of x (opted x ws (Not a))
-not-unadded x ws a src o p f e h = f ∙ ap (unadded_of x) (not-arm (find_cell find_new_cell (rewriter_in x ws)) a src h o e)
+        pub performs-add-full : (u : Full) (q : Result Processed Full) → Adds x x' ws ws' d (Err u) → IsErr q → Performs x x' ws ws' (opted x ws c) q
+        performs-add-full u q s f = no_slot (Performs x x' ws ws' (opted x ws c)) (λ v. performs-by x x' ws ws' (opted x ws c) (Some (Add d)) e (Err v) (λ k l.
+            let h : AnswersAdd x x' ws ws' (Err u) (adder k (rewriter_in x ws) d) = s.said k l in
+            (omega (arith, h.0, value-slots (adder k (rewriter_in x ws) d)), h.1))) q f
 
--- `Cell::And`
-module _ (x : Extent) (ws : List ℕ) (a b : Net) where
-  abbrev conjunction : Cell
-  conjunction = Aig (Pos a) (Pos b)
+    -- its inverse
+    module _ (e : opted x ws c ≡ Some (NotOf d)) where
+      pub not-ready : Ready x ws d
+      not-ready = record { running = g.running; gate = added-gate x ws c g (Some (NotOf d)) e d (λ h. h) }
 
-  and_is : opted x ws (And a b) ≡ Some (Add (Aig (Pos a) (Pos b)))
-  and_is = and-arm (find_cell find_new_cell (rewriter_in x ws)) a b
+      pub not-falls : (t : ℕ) → 8 * weight (rewriter_in x ws).stamps c ≡ t → 8 * weight (rewriter_in x ws).stamps d + 4 < t
+      not-falls t m = omega (arith, added-lighter x ws c g (Some (NotOf d)) e d (λ h. h))
 
-  pub and-ready : Ready x ws (And a b) → Ready x ws (Aig (Pos a) (Pos b))
-  and-ready g = added-ready x ws (And a b) g (Some (Add (Aig (Pos a) (Pos b)))) and_is (Aig (Pos a) (Pos b)) (λ h. h)
+      module _ (x' : Extent) (ws' : List ℕ) where
+        pub performs-not : (n : Net) → Adds x x' ws ws' d (Ok n) → Performs x x' ws ws' (opted x ws c) (Ok (processed.Cell (Not n)))
+        performs-not n s = performs-by x x' ws ws' (opted x ws c) (Some (NotOf d)) e (Ok (processed.Cell (Not n))) (λ k l.
+            let h : AnswersAdd x x' ws ws' (Ok n) (adder k (rewriter_in x ws) d) = s.said k l in
+            (ap rewriting.as_not h.0, h.1))
 
-  pub and-falls : (t : ℕ) → Ready x ws (And a b) → 8 * weight (rewriter_in x ws).stamps (And a b) ≡ t → 8 * weight (rewriter_in x ws).stamps (Aig (Pos a) (Pos b)) + 3 < t
-  and-falls t g m = omega (arith, added-lighter x ws (And a b) g (Some (Add (Aig (Pos a) (Pos b)))) and_is (Aig (Pos a) (Pos b)) (λ h. h))
+    -- the net of its inverse
+    module _ (e : opted x ws c ≡ Some (AddNotOf d)) where
+      both-gate : GateOf (Settled g.running.ticket (rewriter_in x ws).stamps) d
+      both-gate = added-gate x ws c g (Some (AddNotOf d)) e d (λ h. h)
 
-  module _ (ws' : List ℕ) (u : Added) (s : Adds x ws ws' (Aig (Pos a) (Pos b)) u) where
-    and-by : (v : Added) (p : Processed) → u ≡ v → p ≡ as_value_of v → Performs x ws ws' (opted x ws (And a b)) p
-    and-by v p e f =
-        performs-by x ws ws' (opted x ws (And a b)) (Some (Add (Aig (Pos a) (Pos b)))) and_is p (as_value_of v) f (λ k l.
-        value-answers x ws ws' v (adder k (rewriter_in x ws) (Aig (Pos a) (Pos b)))
-        (subst (λ v. AnswersAdd x ws ws' v (adder k (rewriter_in x ws) (Aig (Pos a) (Pos b)))) e (s.said k l)))
+      pub both-ready : Ready x ws d
+      both-ready = record { running = g.running; gate = both-gate }
 
-    pub and-value : (n : Net) (y : Extent) → u ≡ added.At n y → Performs x ws ws' (opted x ws (And a b)) (processed.Value n y)
-    and-value n y e = and-by (added.At n y) (processed.Value n y) e refl
+      both-lighter-than : weight (rewriter_in x ws).stamps d < weight (rewriter_in x ws).stamps c
+      both-lighter-than = added-lighter x ws c g (Some (AddNotOf d)) e d (λ h. h)
 
-    pub and-full : u ≡ added.Full → Performs x ws ws' (opted x ws (And a b)) processed.Full
-    and-full e = and-by added.Full processed.Full e refl
+      pub both-falls : (t : ℕ) → 8 * weight (rewriter_in x ws).stamps c ≡ t → 8 * weight (rewriter_in x ws).stamps d + 4 < t
+      both-falls t m = omega (arith, both-lighter-than)
 
--- `Cell::Or`
-module _ (x : Extent) (ws : List ℕ) (a b : Net) where
-  abbrev d : Cell
-  d = Aig (Neg a) (Neg b)
+      module _ (y : Extent) (ws' : List ℕ) where
+        pub both-performs-full : (u : Full) (q : Result Processed Full) → Adds x y ws ws' d (Err u) → IsErr q → Performs x y ws ws' (opted x ws c) q
+        both-performs-full u q s f = no_slot (Performs x y ws ws' (opted x ws c)) (λ v. performs-by x y ws ws' (opted x ws c) (Some (AddNotOf d)) e (Err v) (λ k l.
+            let h : AnswersAdd x y ws ws' (Err u) (adder k (rewriter_in x ws) d) = s.said k l in
+            (omega (arith, h.0, add_not-slots k (adder k (rewriter_in x ws) d)), h.1))) q f
 
-  or_is : opted x ws (Or a b) ≡ Some (AddNotOf (Aig (Neg a) (Neg b)))
-  or_is = or-arm (find_cell find_new_cell (rewriter_in x ws)) a b
+        module _ (n : Net) (s : Adds x y ws ws' d (Ok n)) where
+          pub inverse-ready : Ready y ws' (Not n)
+          inverse-ready =
+              let cs : List Cell = g.running.ticket in
+              let b : List ℕ = g.running.before in
+              let k : ℕ = suc (weight (rewriter_in x ws).stamps d) in
+              let z : AnswersAdd x y ws ws' (Ok n) (adder k (rewriter_in x ws) d) = s.said k (omega arith) in
+              let h : KeepsAdded cs b (rewriting.at n (rewriter_in y ws')) =
+              subst (KeepsAdded cs b) z.0 (adder-keeps cs b k (rewriter_in x ws) d (λ few. g.running.state) (λ few. both-gate)) in
+              ready-in cs b y ws' (Not n) z.1.held h.0 ((keeping cs b).inverse (rewriter_in y ws') n h.0 h.1)
 
-  or-lighter : Ready x ws (Or a b) → weight (rewriter_in x ws).stamps (Aig (Neg a) (Neg b)) < weight (rewriter_in x ws).stamps (Or a b)
-  or-lighter g = added-lighter x ws (Or a b) g (Some (AddNotOf (Aig (Neg a) (Neg b)))) or_is (Aig (Neg a) (Neg b)) (λ h. h)
+          pub inverse-falls : (t : ℕ) → 8 * weight (rewriter_in x ws).stamps c ≡ t → 8 * weight (rewriter_in y ws').stamps (Not n) + 4 < t
+          inverse-falls t m = omega (arith, both-lighter-than, not-weight (rewriter_in y ws').stamps n)
 
-  pub or-ready : Ready x ws (Or a b) → Ready x ws (Aig (Neg a) (Neg b))
-  or-ready g = added-ready x ws (Or a b) g (Some (AddNotOf (Aig (Neg a) (Neg b)))) or_is (Aig (Neg a) (Neg b)) (λ h. h)
+          module _ (z : Extent) (ws'' : List ℕ) where
+            inverse-by : (a : Result Net Full) (q : Result Processed Full) → Adds y z ws' ws'' (Not n) a
+                → ((v : rewriting.Added) → AnswersAdd y z ws' ws'' a v → Answers y z ws' ws'' q (rewriting.as_value v)) → Performs x z ws ws'' (opted x ws c) q
+            inverse-by a q i f = performs-by x z ws ws'' (opted x ws c) (Some (AddNotOf d)) e q (λ k l.
+                let h : AnswersAdd x y ws ws' (Ok n) (adder k (rewriter_in x ws) d) = s.said k l in
+                subst (λ w. Answers x z ws ws'' q (rewriting.add_not (adder k) w)) (sym h.0)
+                (answers-on x y z ws ws' ws'' h.1 q (rewriting.as_value (adder k (rewriter_in y ws') (Not n)))
+                (f (adder k (rewriter_in y ws') (Not n)) (i.said k (omega (arith, l, not-weight (rewriter_in y ws').stamps n))))))
 
-  pub or-falls : (t : ℕ) → Ready x ws (Or a b) → 8 * weight (rewriter_in x ws).stamps (Or a b) ≡ t → 8 * weight (rewriter_in x ws).stamps (Aig (Neg a) (Neg b)) + 3 < t
-  or-falls t g m = omega (arith, or-lighter g)
+            pub performs-both : (m : Net) → Adds y z ws' ws'' (Not n) (Ok m) → Performs x z ws ws'' (opted x ws c) (Ok (processed.Value m))
+            performs-both m i = inverse-by (Ok m) (Ok (processed.Value m)) i (λ w h. (ap rewriting.as_value h.0, h.1))
 
-  module _ (ws' : List ℕ) (u : Added) (s : Adds x ws ws' (Aig (Neg a) (Neg b)) u) where
-    added-as : (v : Added) → u ≡ v → (k : ℕ) → weight (rewriter_in x ws).stamps d < k → AnswersAdd x ws ws' v (adder k (rewriter_in x ws) d)
-    added-as v e k h = subst (λ v. AnswersAdd x ws ws' v (adder k (rewriter_in x ws) d)) e (s.said k h)
+            pub inverse-performs-full : (u : Full) (q : Result Processed Full) → Adds y z ws' ws'' (Not n) (Err u) → IsErr q → Performs x z ws ws'' (opted x ws c) q
+            inverse-performs-full u q i f =
+                no_slot (Performs x z ws ws'' (opted x ws c)) (λ v. inverse-by (Err u) (Err v) i (λ w h. (omega (arith, h.0, value-slots w), h.1))) q f
 
-    pub or-full : u ≡ added.Full → Performs x ws ws' (opted x ws (Or a b)) processed.Full
-    or-full f =
-        performs-by x ws ws' (opted x ws (Or a b)) (Some (AddNotOf d)) or_is processed.Full processed.Full refl (λ k l.
-        let z : AnswersAdd x ws ws' added.Full (adder k (rewriter_in x ws) d) = added-as added.Full f k l in
-        (omega (arith, z.0, add_not-slots k (adder k (rewriter_in x ws) d)), z.1))
+-- the splits
+pub and_is : (x : Extent) (ws : List ℕ) (a b : Net) → opted x ws (And a b) ≡ Some (Add (Aig (Pos a) (Pos b)))
+unfolding simple_aig_opt
+and_is x ws a b = refl
 
-    module _ (n : Net) (y : Extent) (f : u ≡ added.At n y) where
-      pub or-not-falls : (t : ℕ) → Ready x ws (Or a b) → 8 * weight (rewriter_in x ws).stamps (Or a b) ≡ t → 8 * weight (rewriter_in y ws').stamps (Not n) + 3 < t
-      or-not-falls t g m = omega (arith, or-lighter g, not-weight (rewriter_in y ws').stamps n)
-
-      pub or-not-ready : Ready x ws (Or a b) → Ready y ws' (Not n)
-      or-not-ready g =
-          let q : Ready x ws d = or-ready g in
-          let cs : List Cell = q.running.ticket in
-          let b : List ℕ = q.running.before in
-          let k : ℕ = suc (weight (rewriter_in x ws).stamps d) in
-          let z : AnswersAdd x ws ws' (added.At n y) (adder k (rewriter_in x ws) d) = added-as (added.At n y) f k (omega arith) in
-          let h : KeepsAdded cs b (rewriting.at n (rewriter_in y ws')) =
-          subst (KeepsAdded cs b) z.0 (adder-keeps cs b k (rewriter_in x ws) d (λ few. q.running.state) (λ few. q.gate)) in
-          ready-in cs b y ws' (Not n) z.1.held h.0 ((keeping cs b).inverse (rewriter_in y ws') n h.0 h.1)
-
-      pub or-performs : (ws'' : List ℕ) (v : Added) (p : Processed) → Adds y ws' ws'' (Not n) v → p ≡ as_value_of v → Performs x ws ws'' (opted x ws (Or a b)) p
-      or-performs ws'' v p i q =
-          performs-by x ws ws'' (opted x ws (Or a b)) (Some (AddNotOf d)) or_is p (as_value_of v) q (λ k l.
-          let z : AnswersAdd x ws ws' (added.At n y) (adder k (rewriter_in x ws) d) = added-as (added.At n y) f k l in
-          subst (λ w. Answers x ws ws'' (as_value_of v) (rewriting.add_not (adder k) w)) (sym z.0)
-          (answers-on x y ws ws' ws'' z.1 (as_value_of v) (rewriting.as_value (adder k (rewriter_in y ws') (Not n)))
-          (value-answers y ws' ws'' v (adder k (rewriter_in y ws') (Not n)) (i.said k (omega (arith, l, not-weight (rewriter_in y ws').stamps n))))))
-
--- an outcome that is the inverse of a cell
-module _ (x : Extent) (ws : List ℕ) (c d : Cell) (o : Outcome) where
-  pub inverse-ready : o ≡ Some (NotOf d) → Ready x ws c → o ≡ opted x ws c → Ready x ws d
-  inverse-ready f g e = added-ready x ws c g (Some (NotOf d)) (sym e ∙ f) d (λ h. h)
-
-  pub inverse-falls : (t : ℕ) → o ≡ Some (NotOf d) → Ready x ws c → 8 * weight (rewriter_in x ws).stamps c ≡ t → o ≡ opted x ws c
-      → 8 * weight (rewriter_in x ws).stamps d + 3 < t
-  inverse-falls t f g m e = omega (arith, added-lighter x ws c g (Some (NotOf d)) (sym e ∙ f) d (λ h. h))
-
-  pub inverse-performs : (ws' : List ℕ) (u : Added) (p : Processed) → p ≡ as_not_of u → Adds x ws ws' d u → o ≡ Some (NotOf d) → o ≡ opted x ws c
-      → Performs x ws ws' (opted x ws c) p
-  inverse-performs ws' u p q s f e =
-      performs-by x ws ws' (opted x ws c) (Some (NotOf d)) (sym e ∙ f) p (as_not_of u) q (λ k l.
-      not-answers x ws ws' u (adder k (rewriter_in x ws) d) (s.said k l))
+pub or_is : (x : Extent) (ws : List ℕ) (a b : Net) → opted x ws (Or a b) ≡ Some (AddNotOf (Aig (Neg a) (Neg b)))
+unfolding simple_aig_opt
+or_is x ws a b = refl
 
 -- `SimpleAigOpt` by the kind of the cell
 module _ (x : Extent) (ws : List ℕ) (c : Cell) where
-  pub arm-ready : (d : Cell) → c ≡ d → Ready x ws c → Ready x ws d
-  arm-ready d e g = subst (Ready x ws) e g
-
-  pub arm-falls : (d : Cell) (t : ℕ) → c ≡ d → 8 * weight (rewriter_in x ws).stamps c + 1 ≡ t → 8 * weight (rewriter_in x ws).stamps d < t
-  arm-falls d t e m = omega (arith, ap (weight (rewriter_in x ws).stamps) e)
-
-  pub arm-performs : (ws' : List ℕ) (d : Cell) (p : Processed) → c ≡ d → Performs x ws ws' (opted x ws d) p → Performs x ws ws' (opted x ws c) p
-  arm-performs ws' d p e s = performs-same x ws ws' (opted x ws c) (opted x ws d) p (ap (opted x ws) e) s
-
-  pub not-performs : (a : Net) (p : Processed) → Ready x ws c → c ≡ Not a → p ≡ unadded_of x (opted x ws (Not a)) → Performs x ws ws (opted x ws c) p
+  pub not-performs : (a : Net) (p : Processed) → Ready x ws c → c ≡ Not a → p ≡ unadded_of (opted x ws (Not a)) → Performs x x ws ws (opted x ws c) (Ok p)
+  unfolding simple_aig_opt
   not-performs a p g e f =
-      let look : Net → Source = find_cell find_new_cell (rewriter_in x ws) in
-      performs-unadded x ws (opted x ws c) (opted x ws (Not a)) p g.running.held (ap (opted x ws) e)
-      (ap adds (sym (not-arm look a (look a) refl (not_rule (look a) a) refl)) ∙ not-adds (look a) a (not_rule (look a) a) refl) f
+      let src : Source = find_cell find_new_cell (rewriter_in x ws) a in
+      subst (λ p. Performs x x ws ws (opted x ws c) (Ok p)) (sym f)
+      (performs-unadded x ws c g (opted x ws c) (opted x ws (Not a)) (ap (opted x ws) e) (not-adds src a (not_rule src a) refl))
 
-  none-performs : (d : Cell) → Ready x ws c → c ≡ d → opted x ws d ≡ None → Performs x ws ws (opted x ws c) (processed.None x)
-  none-performs d g e f = performs-unadded x ws (opted x ws c) None (processed.None x) g.running.held (ap (opted x ws) e ∙ f) refl refl
+  other-none : (d : Cell) → ((a : Net) → d ≡ Not a → ⊥) → ((a b : Net) → d ≡ And a b → ⊥) → ((a b : Net) → d ≡ Or a b → ⊥)
+      → ((a b : Net) → d ≡ Xor a b → ⊥) → ((p q : ControlNet) → d ≡ Aig p q → ⊥) → opted x ws d ≡ None
+  unfolding simple_aig_opt
+  other-none (Input l) n a o e i = refl
+  other-none (Output b l) n a o e i = refl
+  other-none (Buf b) n a o e i = refl
+  other-none (Mux s b d) n a o e i = refl
+  other-none (Not b) n a o e i = absurd (n b refl)
+  other-none (And b d) n a o e i = absurd (a b d refl)
+  other-none (Or b d) n a o e i = absurd (o b d refl)
+  other-none (Xor b d) n a o e i = absurd (e b d refl)
+  other-none (Aig p q) n a o e i = absurd (i p q refl)
 
-  pub input-performs : (l : ℕ) → Ready x ws c → c ≡ Input l → Performs x ws ws (opted x ws c) (processed.None x)
-  input-performs l g e = none-performs (Input l) g e (input-arm (find_cell find_new_cell (rewriter_in x ws)) l)
-
-  pub output-performs : (a : Net) (l : ℕ) → Ready x ws c → c ≡ Output a l → Performs x ws ws (opted x ws c) (processed.None x)
-  output-performs a l g e = none-performs (Output a l) g e (output-arm (find_cell find_new_cell (rewriter_in x ws)) a l)
-
-  pub buf-performs : (a : Net) → Ready x ws c → c ≡ Buf a → Performs x ws ws (opted x ws c) (processed.None x)
-  buf-performs a g e = none-performs (Buf a) g e (buf-arm (find_cell find_new_cell (rewriter_in x ws)) a)
-
-  pub mux-performs : (s a b : Net) → Ready x ws c → c ≡ Mux s a b → Performs x ws ws (opted x ws c) (processed.None x)
-  mux-performs s a b g e = none-performs (Mux s a b) g e (mux-arm (find_cell find_new_cell (rewriter_in x ws)) s a b)
+  pub other-performs : Ready x ws c → ((a : Net) → c ≡ Not a → ⊥) → ((a b : Net) → c ≡ And a b → ⊥) → ((a b : Net) → c ≡ Or a b → ⊥)
+      → ((a b : Net) → c ≡ Xor a b → ⊥) → ((p q : ControlNet) → c ≡ Aig p q → ⊥) → Performs x x ws ws (opted x ws c) (Ok processed.None)
+  other-performs g n a o e i = performs-unadded x ws c g (opted x ws c) None (other-none c n a o e i) refl
 
 -- all rules: `Normalize` decides, or it gives nothing
 module _ (x : Extent) (ws : List ℕ) (c : Cell) (o : Outcome) (e : o ≡ normalize c) where
   ruled-as : (u : Outcome) → o ≡ u → ruled x ws c ≡ (u or_else opted x ws c)
-  unfolding rewriting.rules
+  unfolding rules
   ruled-as u f = ap (λ n. n or_else opted x ws c) (sym e ∙ f)
 
-  ruled-value : (n : Net) → Ready x ws c → o ≡ Some (Value n) → Performs x ws ws (ruled x ws c) (processed.Value n x)
+  pub ruled-value : (n : Net) → Ready x ws c → o ≡ Some (Value n) → Performs x x ws ws (ruled x ws c) (Ok (processed.Value n))
   unfolding first_change
-  ruled-value n g f = performs-unadded x ws (ruled x ws c) (Some (Value n)) (processed.Value n x) g.running.held (ruled-as (Some (Value n)) f) refl refl
+  ruled-value n g f = performs-unadded x ws c g (ruled x ws c) (Some (Value n)) (ruled-as (Some (Value n)) f) refl
 
-  ruled-form : (d : Cell) → Ready x ws c → o ≡ Some (Form d) → Performs x ws ws (ruled x ws c) (processed.Cell d x)
+  pub ruled-form : (d : Cell) → Ready x ws c → o ≡ Some (Form d) → Performs x x ws ws (ruled x ws c) (Ok (processed.Cell d))
   unfolding first_change
-  ruled-form d g f = performs-unadded x ws (ruled x ws c) (Some (Form d)) (processed.Cell d x) g.running.held (ruled-as (Some (Form d)) f) refl refl
+  ruled-form d g f = performs-unadded x ws c g (ruled x ws c) (Some (Form d)) (ruled-as (Some (Form d)) f) refl
 
-  ruled-opted : (ws' : List ℕ) (p : Processed) → o ≡ None → Performs x ws ws' (opted x ws c) p → Performs x ws ws' (ruled x ws c) p
-  ruled-opted ws' p f s = performs-same x ws ws' (ruled x ws c) (opted x ws c) p (ruled-as None f ∙ none-or_else (opted x ws c)) s
+  pub ruled-opted : (x' : Extent) (ws' : List ℕ) (q : Result Processed Full) → o ≡ None → Performs x x' ws ws' (opted x ws c) q
+      → Performs x x' ws ws' (ruled x ws c) q
+  ruled-opted x' ws' q f s = performs-same x x' ws ws' (ruled x ws c) (opted x ws c) (ruled-as None f ∙ none-or_else (opted x ws c)) q s
 
 -- one pass over the rules
-module _ (x : Extent) (ws : List ℕ) (c : Cell) (g : Ready x ws c) (ws' : List ℕ) (p : Processed) (s : Performs x ws ws' (ruled x ws c) p) where
+module _ (x x' : Extent) (ws ws' : List ℕ) (c : Cell) (g : Ready x ws c) where
   abbrev w : ℕ
   w = weight (rewriter_in x ws).stamps c
 
   abbrev performed : ℕ → rewriting.Result
   performed k = rewriting.perform (adder k) (rewriter_in x ws) (ruled x ws c)
 
-  performed-as : (q : Processed) → p ≡ q → (k : ℕ) → w ≤ k → Answers x ws ws' q (performed k)
-  performed-as q f k h =
-      subst (λ p. Answers x ws ws' p (performed k)) f (s.said k (lighter-more (rewriter_in x ws).stamps w k (ruled x ws c) h (lighter x ws c g)))
-
-  pub pass-held : (y : Extent) → p ≡ processed.None y → Held y ws'
-  pass-held y f = (performed-as (processed.None y) f w (omega arith)).1.held
-
   -- with each number of steps
-  turn_by : (ws'' : List ℕ) (q : Processed) → ((k : ℕ) → w ≤ k → Answers x ws ws'' q (rewriting.go_on (again k) c (performed k))) → Processes x ws ws'' c q
+  turn_by : (x'' : Extent) (ws'' : List ℕ) (q : Result Processed Full) → ((k : ℕ) → w ≤ k → Answers x x'' ws ws'' q (rewriting.go_on (again k) c (performed k)))
+      → Processes x x'' ws ws'' c q
   unfolding process
-  turn_by ws'' q f = record { said = go }
+  turn_by x'' ws'' q f = record { said = go }
     where
-      go : (k : ℕ) → w < k → Answers x ws ws'' q (process k find_new_cell (rewriter_in x ws) c)
+      go : (k : ℕ) → w < k → Answers x x'' ws ws'' q (process k find_new_cell (rewriter_in x ws) c)
       go zero h = absurd (omega arith)
       go (suc k) h = f k (omega arith)
 
-  process-asked : (y : Extent) → p ≡ processed.None y → Processes x ws ws' c (asked_of y ws' c)
-  process-asked y f = turn_by ws' (asked_of y ws' c) (λ k l.
-      let z : Answers x ws ws' (processed.None y) (performed k) = performed-as (processed.None y) f k l in
-      subst (λ v. Answers x ws ws' (asked_of y ws' c) (rewriting.go_on (again k) c v)) (sym z.0)
-      (found-answers x y ws ws' (seek (rewriter_in y ws').cache c) z.1))
+  pass-said : (q : Result Processed Full) → Performs x x' ws ws' (ruled x ws c) q → (k : ℕ) → w ≤ k → Answers x x' ws ws' q (performed k)
+  pass-said q s k h = s.said k (lighter-more (rewriter_in x ws).stamps w k (ruled x ws c) h (lighter x ws c g))
 
-  process-value : (n : Net) (y : Extent) → p ≡ processed.Value n y → Processes x ws ws' c (processed.Value n y)
-  process-value n y f = turn_by ws' (processed.Value n y) (λ k l.
-      let z : Answers x ws ws' (processed.Value n y) (performed k) = performed-as (processed.Value n y) f k l in
-      (ap (rewriting.go_on (again k) c) z.0, z.1))
-
-  process-full : p ≡ processed.Full → Processes x ws ws' c processed.Full
-  process-full f = turn_by ws' processed.Full (λ k l.
-      let z : Answers x ws ws' processed.Full (performed k) = performed-as processed.Full f k l in
+  process-full : (u : Full) → Performs x x' ws ws' (ruled x ws c) (Err u) → Processes x x' ws ws' c (Err u)
+  process-full u s = turn_by x' ws' (Err u) (λ k l.
+      let z : Answers x x' ws ws' (Err u) (performed k) = pass-said (Err u) s k l in
       (omega (arith, z.0, go_on-slots k c (performed k)), z.1))
 
-  -- another form
-  module _ (d : Cell) (y : Extent) (f : p ≡ processed.Cell d y) where
-    form-lighter : weight (rewriter_in y ws').stamps d < w
-    form-lighter =
-        subst (LighterPass w) (performed-as (processed.Cell d y) f w (omega arith)).0 (pass-lighter w w (rewriter_in x ws) (ruled x ws c) (lighter x ws c g))
+  module _ (p : Processed) (s : Performs x x' ws ws' (ruled x ws c) (Ok p)) where
+    passed : (u : Processed) → p ≡ u → (k : ℕ) → w ≤ k → Answers x x' ws ws' (Ok u) (performed k)
+    passed u e k h = subst (λ u. Answers x x' ws ws' (Ok u) (performed k)) e (pass-said (Ok p) s k h)
 
-    form-ready : Ready y ws' d
-    form-ready =
-        let cs : List Cell = g.running.ticket in
-        let b : List ℕ = g.running.before in
-        let z : Answers x ws ws' (processed.Cell d y) (performed w) = performed-as (processed.Cell d y) f w (omega arith) in
-        let h : KeepsPass cs b c (rewriting.cell d (rewriter_in y ws')) =
-        subst (KeepsPass cs b c) z.0 (pass-keeps cs b w (rewriter_in x ws) c (λ few. g.running.state) (λ few. g.gate)) in
-        ready-in cs b y ws' d z.1.held h.0 h.1
+    pass-held : Held x' ws'
+    pass-held = (pass-said (Ok p) s w (omega arith)).1.held
 
-    process-form : (ws'' : List ℕ) (t : Processed) → Processes y ws' ws'' d t → Processes x ws ws'' c (form_of true d t)
-    process-form ws'' t a = turn_by ws'' (form_of true d t) (λ k l.
-        let z : Answers x ws ws' (processed.Cell d y) (performed k) = performed-as (processed.Cell d y) f k l in
-        subst (λ v. Answers x ws ws'' (form_of true d t) (rewriting.go_on (again k) c v)) (sym z.0)
-        (answers-on x y ws ws' ws'' z.1 (form_of true d t) (rewriting.replacing d (again k (rewriter_in y ws') d))
-        (replacing-answers y ws' ws'' d t (again k (rewriter_in y ws') d) (a.said k (omega (arith, l, form-lighter))))))
+    -- the cache is asked
+    process-asked : p ≡ processed.None → (f : Option Net) → f ≡ seek (rewriter_in x' ws').cache c → Processes x x' ws ws' c (Ok (found_of f))
+    process-asked e f h = turn_by x' ws' (Ok (found_of f)) (λ k l.
+        let z : Answers x x' ws ws' (Ok processed.None) (performed k) = passed processed.None e k l in
+        (ap (rewriting.go_on (again k) c) z.0 ∙ ap (rewriting.asked (rewriter_in x' ws')) (sym h) ∙ sym (found-result f (rewriter_in x' ws')), z.1))
 
--- the loop over the forms of c: what is left of the form d at hand is what is left of c
-pub record Forms (x : Extent) (ws : List ℕ) (c : Cell) (y : Extent) (ws' : List ℕ) (d : Cell) (replaced : Bool) : Type 0 where
+    process-value : (n : Net) → p ≡ processed.Value n → Processes x x' ws ws' c (Ok (processed.Value n))
+    process-value n e = turn_by x' ws' (Ok (processed.Value n)) (λ k l.
+        let z : Answers x x' ws ws' (Ok (processed.Value n)) (performed k) = passed (processed.Value n) e k l in
+        (ap (rewriting.go_on (again k) c) z.0, z.1))
+
+    -- another form
+    module _ (d : Cell) (e : p ≡ processed.Cell d) where
+      form-lighter : weight (rewriter_in x' ws').stamps d < w
+      form-lighter =
+          subst (LighterPass w) (passed (processed.Cell d) e w (omega arith)).0 (pass-lighter w w (rewriter_in x ws) (ruled x ws c) (lighter x ws c g))
+
+      form-ready : Ready x' ws' d
+      form-ready =
+          let cs : List Cell = g.running.ticket in
+          let b : List ℕ = g.running.before in
+          let z : Answers x x' ws ws' (Ok (processed.Cell d)) (performed w) = passed (processed.Cell d) e w (omega arith) in
+          let h : KeepsPass cs b c (rewriting.cell d (rewriter_in x' ws')) =
+          subst (KeepsPass cs b c) z.0 (pass-keeps cs b w (rewriter_in x ws) c (λ few. g.running.state) (λ few. g.gate)) in
+          ready-in cs b x' ws' d z.1.held h.0 h.1
+
+      process-form : (x'' : Extent) (ws'' : List ℕ) (t : Result Processed Full) → Processes x' x'' ws' ws'' d t → Processes x x'' ws ws'' c (formed (processed.Cell d) t)
+      process-form x'' ws'' t a = turn_by x'' ws'' (formed (processed.Cell d) t) (λ k l.
+          let z : Answers x x' ws ws' (Ok (processed.Cell d)) (performed k) = passed (processed.Cell d) e k l in
+          subst (λ v. Answers x x'' ws ws'' (formed (processed.Cell d) t) (rewriting.go_on (again k) c v)) (sym z.0)
+          (answers-on x x' x'' ws ws' ws'' z.1 (formed (processed.Cell d) t) (rewriting.replacing d (again k (rewriter_in x' ws') d))
+          (replacing-answers x' x'' ws' ws'' d t (again k (rewriter_in x' ws') d) (a.said k (omega (arith, l, form-lighter))))))
+
+-- the loop over the forms of c: what is left of the form d at hand, or else l, is what is left of c
+pub record Forms (x : Extent) (ws : List ℕ) (c : Cell) (y : Extent) (ws' : List ℕ) (d : Cell) (l : Processed) : Type 0 where
   pub ready : Ready y ws' d
   pub lighter : weight (rewriter_in y ws').stamps d ≤ weight (rewriter_in x ws).stamps c
-  pub left : (ws'' : List ℕ) (p : Processed) → Processes y ws' ws'' d p → Processes x ws ws'' c (form_of replaced d p)
+  pub on : (z : Extent) (ws'' : List ℕ) (q : Result Processed Full) → Processes y z ws' ws'' d q → Processes x z ws ws'' c (formed l q)
   pub same : length ws' ≡ length ws
 
-pub forms-begin : (x : Extent) (ws : List ℕ) (c : Cell) → Ready x ws c → Forms x ws c x ws c false
-forms-begin x ws c g = record { ready = g; lighter = omega arith; left = λ ws'' p h. subst (Processes x ws ws'' c) (sym (form-false c p)) h; same = refl }
+pub forms-begin : (x : Extent) (ws : List ℕ) (c : Cell) → Ready x ws c → Forms x ws c x ws c processed.None
+forms-begin x ws c g = record { ready = g; lighter = omega arith; on = λ z ws'' q h. subst (Processes x z ws ws'' c) (sym (formed-none q)) h; same = refl }
 
-module _ (x : Extent) (ws : List ℕ) (c : Cell) (y : Extent) (ws' : List ℕ) (d : Cell) (replaced : Bool) (v : Forms x ws c y ws' d replaced) where
+module _ (x : Extent) (ws : List ℕ) (c : Cell) (y : Extent) (ws' : List ℕ) (d : Cell) (l : Processed) (v : Forms x ws c y ws' d l) where
   pub forms-ready : Ready y ws' d
   forms-ready = v.ready
 
-  pub forms-fall : (t : ℕ) → 8 * weight (rewriter_in x ws).stamps c + 2 ≡ t → 8 * weight (rewriter_in y ws').stamps d + 1 < t
+  pub forms-fall : (t : ℕ) → 8 * weight (rewriter_in x ws).stamps c + 3 ≡ t → 8 * weight (rewriter_in y ws').stamps d + 2 < t
   forms-fall t m = omega (arith, v.lighter)
 
-  -- a pass that leaves another form
-  module _ (ws'' : List ℕ) (p : Processed) (s : Performs y ws' ws'' (ruled y ws' d) p) (e : Cell) (z : Extent) (f : p ≡ processed.Cell e z) where
-    next-less : weight (rewriter_in z ws'').stamps e < weight (rewriter_in y ws').stamps d
-    next-less = form-lighter y ws' d v.ready ws'' p s e z f
+  module _ (z : Extent) (ws'' : List ℕ) where
+    pub forms-full : (u : Full) (q : Result Processed Full) → Performs y z ws' ws'' (ruled y ws' d) (Err u) → IsErr q → Processes x z ws ws'' c q
+    forms-full u q s f =
+        no_slot (Processes x z ws ws'' c) (λ e. v.on z ws'' (Err e) (process-full y z ws' ws'' d v.ready e (record { said = s.said }))) q f
 
-    next-form : length ws'' ≡ length ws' → Forms x ws c z ws'' e true
-    next-form l = record {
-      ready = form-ready y ws' d v.ready ws'' p s e z f;
-      lighter = omega (arith, v.lighter, next-less);
-      left = λ ws''' q h.
-          subst (Processes x ws ws''' c) (form-form replaced d e q) (v.left ws''' (form_of true e q) (process-form y ws' d v.ready ws'' p s e z f ws''' q h));
-      same = l ∙ v.same;
-    }
+    module _ (p : Processed) (s : Performs y z ws' ws'' (ruled y ws' d) (Ok p)) where
+      pub forms-held : Held z ws''
+      forms-held = pass-held y z ws' ws'' d v.ready p s
 
-  -- `Normalize` decides
-  module _ (o : Outcome) (a : o ≡ normalize d) where
-    pub normal-value : (n : Net) → o ≡ Some (Value n) → Processes x ws ws' c (processed.Value n y)
-    normal-value n f =
-        v.left ws' (processed.Value n y) (process-value y ws' d v.ready ws' (processed.Value n y) (ruled-value y ws' d o a n v.ready f) n y refl)
+      module _ (e : p ≡ processed.None) (f : Option Net) (h : f ≡ seek (rewriter_in z ws'').cache d) where
+        pub forms-asked : Processes x z ws ws'' c (Ok (form_of l (found_of f)))
+        forms-asked = v.on z ws'' (Ok (found_of f)) (process-asked y z ws' ws'' d v.ready p s e f h)
 
-    pub normal-less : (e : Cell) → o ≡ Some (Form e) → weight (rewriter_in y ws').stamps e < weight (rewriter_in y ws').stamps d
-    normal-less e f = next-less ws' (processed.Cell e y) (ruled-form y ws' d o a e v.ready f) e y refl
+        pub forms-found : (n : Net) → f ≡ Some n → Processes x z ws ws'' c (Ok (processed.Value n))
+        forms-found n i = subst (λ f. Processes x z ws ws'' c (Ok (form_of l (found_of f)))) i forms-asked
 
-    pub normal-form : (e : Cell) → o ≡ Some (Form e) → Forms x ws c y ws' e true
-    normal-form e f = next-form ws' (processed.Cell e y) (ruled-form y ws' d o a e v.ready f) e y refl refl
+        pub forms-new : f ≡ None → Processes x z ws ws'' c (Ok l)
+        forms-new i = subst (λ f. Processes x z ws ws'' c (Ok (form_of l (found_of f)))) i forms-asked
 
-    -- or gives nothing, and `SimpleAigOpt` decides
-    module _ (b : o ≡ None) (ws'' : List ℕ) (p : Processed) (s : Performs y ws' ws'' (opted y ws' d) p) where
-      passed : Performs y ws' ws'' (ruled y ws' d) p
-      passed = ruled-opted y ws' d o a ws'' p b s
+      pub forms-value : (n : Net) → p ≡ processed.Value n → Processes x z ws ws'' c (Ok (processed.Value n))
+      forms-value n e = v.on z ws'' (Ok (processed.Value n)) (process-value y z ws' ws'' d v.ready p s n e)
 
-      pub forms-held : (z : Extent) → p ≡ processed.None z → Held z ws''
-      forms-held z f = pass-held y ws' d v.ready ws'' p passed z f
+      -- a pass that leaves another form
+      module _ (f : Cell) (e : p ≡ processed.Cell f) where
+        pub forms-less : weight (rewriter_in z ws'').stamps f < weight (rewriter_in y ws').stamps d
+        forms-less = form-lighter y z ws' ws'' d v.ready p s f e
 
-      pub forms-asked : (z : Extent) (u q : Processed) → p ≡ processed.None z → u ≡ asked_of z ws'' d → q ≡ form_of replaced d u → Processes x ws ws'' c q
-      forms-asked z u q f h e =
-          subst (Processes x ws ws'' c) (sym (e ∙ ap (form_of replaced d) h)) (v.left ws'' (asked_of z ws'' d) (process-asked y ws' d v.ready ws'' p passed z f))
-
-      pub forms-value : (n : Net) (z : Extent) → p ≡ processed.Value n z → Processes x ws ws'' c (processed.Value n z)
-      forms-value n z f = v.left ws'' (processed.Value n z) (process-value y ws' d v.ready ws'' p passed n z f)
-
-      pub forms-full : p ≡ processed.Full → Processes x ws ws'' c processed.Full
-      forms-full f = v.left ws'' processed.Full (process-full y ws' d v.ready ws'' p passed f)
-
-      module _ (e : Cell) (z : Extent) (f : p ≡ processed.Cell e z) where
-        pub forms-less : weight (rewriter_in z ws'').stamps e < weight (rewriter_in y ws').stamps d
-        forms-less = next-less ws'' p passed e z f
-
-        pub forms-on : length ws'' ≡ length ws' → Forms x ws c z ws'' e true
-        forms-on l = next-form ws'' p passed e z f l
+        pub forms-on : length ws'' ≡ length ws' → Forms x ws c z ws'' f (processed.Cell f)
+        forms-on i = record {
+          ready = form-ready y z ws' ws'' d v.ready p s f e;
+          lighter = omega (arith, v.lighter, forms-less);
+          on = λ x'' ws''' q h.
+              subst (Processes x x'' ws ws''' c) (formed-form l f q)
+              (v.on x'' ws''' (formed (processed.Cell f) q) (process-form y z ws' ws'' d v.ready p s f e x'' ws''' q h));
+          same = i ∙ v.same;
+        }

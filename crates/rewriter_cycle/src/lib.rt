@@ -3,236 +3,192 @@
 // add a cell call the adder.
 #![tactic(auto)]
 
-ghost use Rattle.std.specs.Prelude.{◌≡◌, false};
+ghost use Rattle.std.specs.Prelude.{◌≡◌};
 ghost use Rattle.cell.specs.declared.Cell.TheVariants.{Not, And, Or, Xor, Aig};
-ghost use Rattle.rewriter_state.specs.inner.Words.{Held};
-ghost use Rattle.rewriter_cycle.specs.inner.Cycle.{as_value_of, as_not_of, adds, unadded_of, asked_of, form_of, opted, Ready, Performs, Processes, Adds};
+ghost use Rattle.rewriter_cycle.specs.inner.Cycle.{unadded_of, opted, ruled, Ready, Performs, Processes, Adds};
 
 use cell::Cell;
 use normalize::Change;
-use rewriter_state::{Added, Extent};
+use rewriter_state::{Extent, Full};
 use value::{ControlNet, Net};
 
-// What is left of a cell that was processed (`RewriteResult`): itself, another form, a net in its place; or no slot is left.
-// No Result, for the time that stands at `Added`.
+// What is left of a cell that was processed (`RewriteResult`): itself, another form, or a net in its place. Three ways, so no Option of one.
 #[derive(Clone, Copy)]
 pub enum Processed {
-    None(Extent),
-    Cell(Cell, Extent),
-    Value(Net, Extent),
-    Full,
-}
-
-fn as_value(a: Added) -> Processed
-    ensures { result ≡ as_value_of a }
-{
-    match a {
-        Added::At(n, x) => Processed::Value(n, x),
-        Added::Full => Processed::Full,
-    }
-}
-
-fn as_not(a: Added) -> Processed
-    ensures { result ≡ as_not_of a }
-{
-    match a {
-        Added::At(n, x) => Processed::Cell(Cell::Not(n), x),
-        Added::Full => Processed::Full,
-    }
-}
-
-// The outcome of a rule that adds no cell.
-fn unadded(x: Extent, o: Option<Change>) -> Processed
-    requires { adds o ≡ false }
-    ensures { result ≡ unadded_of x o }
-{
-    match o {
-        Some(Change::Value(n)) => Processed::Value(n, x),
-        Some(Change::Form(c)) => Processed::Cell(c, x),
-        _ => Processed::None(x),
-    }
+    None,
+    Cell(Cell),
+    Value(Net),
 }
 
 // `Cell::Not`: adds nothing.
+#[tactic(auto, unfolding(aig::specs::Aig::simple_aig_opt))]
 fn rewrite_not(work: &[u32], x: Extent, a: Net) -> Processed
-    ensures { result ≡ unadded_of x (opted x work.now (Not a)) }
+    ensures { result ≡ unadded_of (opted x work.now (Not a)) }
 {
-    unadded(x, aig::not_rule(rewriter_state::find_cell(work, x, a), a))
+    match aig::not_rule(rewriter_state::find_cell(work, x, a), a) {
+        None => Processed::None,
+        Some(change) => match change {
+            Change::Value(n) => Processed::Value(n),
+            Change::Form(c) => Processed::Cell(c),
+            // Never: the rules for inverters add no cell.
+            Change::Add(_) | Change::NotOf(_) | Change::AddNotOf(_) => Processed::None,
+        },
+    }
 }
 
 // `Cell::And`, and-split: a & b
 #[cycle(passes)]
-fn rewrite_and(work: &mut [u32], x: Extent, a: Net, b: Net) -> Processed
-    requires { Ready x work.old (And a b) }
-    ensures { Performs x work.old work.new (opted x work.old (And a b)) result }
+fn rewrite_and(work: &mut [u32], x: &mut Extent, a: Net, b: Net) -> Result<Processed, Full>
+    requires { Ready x.old work.old (And a b) }
+    ensures { Performs x.old x.new work.old work.new (opted x.old work.old (And a b)) result }
 {
-    match add_cell(work, x, Cell::Aig(ControlNet::Pos(a), ControlNet::Pos(b))) {
-        Added::At(n, y) => Processed::Value(n, y),
-        Added::Full => Processed::Full,
-    }
+    let n = add_cell(work, x, Cell::Aig(ControlNet::Pos(a), ControlNet::Pos(b)))?;
+    Ok(Processed::Value(n))
 }
 
 // `Cell::Or`, or-split: ~(~a & ~b)
 #[cycle(passes)]
-fn rewrite_or(work: &mut [u32], x: Extent, a: Net, b: Net) -> Processed
-    requires { Ready x work.old (Or a b) }
-    ensures { Performs x work.old work.new (opted x work.old (Or a b)) result }
+fn rewrite_or(work: &mut [u32], x: &mut Extent, a: Net, b: Net) -> Result<Processed, Full>
+    requires { Ready x.old work.old (Or a b) }
+    ensures { Performs x.old x.new work.old work.new (opted x.old work.old (Or a b)) result }
 {
-    match add_cell(work, x, Cell::Aig(ControlNet::Neg(a), ControlNet::Neg(b))) {
-        Added::At(n, y) => as_value(add_cell(work, y, Cell::Not(n))),
-        Added::Full => Processed::Full,
-    }
+    let n = add_cell(work, x, Cell::Aig(ControlNet::Neg(a), ControlNet::Neg(b)))?;
+    let inverse = add_cell(work, x, Cell::Not(n))?;
+    Ok(Processed::Value(inverse))
 }
 
 // What the tests of `Cell::Xor` decide over what its operands are looked up as.
+#[tactic(auto, unfolding(aig::specs::Aig::simple_aig_opt))]
 fn xor_outcome(work: &[u32], x: Extent, a: Net, b: Net) -> Option<Change>
     ensures { result ≡ opted x work.now (Xor a b) }
 {
-    let src1 = rewriter_state::find_cell(work, x, a);
-    let src2 = rewriter_state::find_cell(work, x, b);
-    xor_gate::xor_rule(src1, src2, a, b)
+    let look = |n| rewriter_state::find_cell(work, x, n);
+    xor_gate::xor_rule(look(a), look(b), a, b)
 }
 
-// `Cell::Xor`
+// `Cell::Xor`. It and `Cell::Aig` end in one match, since in the paper's form each rule function calls the adder itself (docs/DECISIONS.md).
 #[cycle(passes)]
-fn rewrite_xor(work: &mut [u32], x: Extent, a: Net, b: Net) -> Processed
-    requires { Ready x work.old (Xor a b) }
-    ensures { Performs x work.old work.new (opted x work.old (Xor a b)) result }
+fn rewrite_xor(work: &mut [u32], x: &mut Extent, a: Net, b: Net) -> Result<Processed, Full>
+    requires { Ready x.old work.old (Xor a b) }
+    ensures { Performs x.old x.new work.old work.new (opted x.old work.old (Xor a b)) result }
 {
-    match xor_outcome(work, x, a, b) {
-        None => Processed::None(x),
+    match xor_outcome(work, *x, a, b) {
+        None => Ok(Processed::None),
         Some(change) => match change {
-            Change::Value(n) => Processed::Value(n, x),
-            Change::Form(c) => Processed::Cell(c, x),
-            Change::NotOf(c) => as_not(add_cell(work, x, c)),
+            Change::Value(n) => Ok(Processed::Value(n)),
+            Change::Form(c) => Ok(Processed::Cell(c)),
+            Change::NotOf(c) => {
+                let n = add_cell(work, x, c)?;
+                Ok(Processed::Cell(Cell::Not(n)))
+            }
             // Never: no test of this arm asks for the net of a cell.
-            Change::Add(_) => Processed::None(x),
-            Change::AddNotOf(_) => Processed::None(x),
+            Change::Add(_) | Change::AddNotOf(_) => Ok(Processed::None),
         },
     }
 }
 
 // What the tests of `Cell::Aig` decide over what its operands are looked up as.
+#[tactic(auto, unfolding(aig::specs::Aig::simple_aig_opt))]
 fn aig_outcome(work: &[u32], x: Extent, p: ControlNet, q: ControlNet) -> Option<Change>
     ensures { result ≡ opted x work.now (Aig p q) }
 {
-    let src1 = rewriter_state::find_cell(work, x, p.net());
-    let src2 = rewriter_state::find_cell(work, x, q.net());
-    and_inverter::aig_rule(src1, src2, p, q)
+    let look = |n| rewriter_state::find_cell(work, x, n);
+    and_inverter::aig_rule(look(p.net()), look(q.net()), p, q)
 }
 
 // `Cell::Aig`
 #[cycle(passes)]
-fn rewrite_aig(work: &mut [u32], x: Extent, p: ControlNet, q: ControlNet) -> Processed
-    requires { Ready x work.old (Aig p q) }
-    ensures { Performs x work.old work.new (opted x work.old (Aig p q)) result }
+fn rewrite_aig(
+    work: &mut [u32],
+    x: &mut Extent,
+    p: ControlNet,
+    q: ControlNet,
+) -> Result<Processed, Full>
+    requires { Ready x.old work.old (Aig p q) }
+    ensures { Performs x.old x.new work.old work.new (opted x.old work.old (Aig p q)) result }
 {
-    match aig_outcome(work, x, p, q) {
-        None => Processed::None(x),
+    match aig_outcome(work, *x, p, q) {
+        None => Ok(Processed::None),
         Some(change) => match change {
-            Change::Value(n) => Processed::Value(n, x),
-            Change::Form(c) => Processed::Cell(c, x),
-            Change::NotOf(c) => as_not(add_cell(work, x, c)),
+            Change::Value(n) => Ok(Processed::Value(n)),
+            Change::Form(c) => Ok(Processed::Cell(c)),
+            Change::NotOf(c) => {
+                let n = add_cell(work, x, c)?;
+                Ok(Processed::Cell(Cell::Not(n)))
+            }
             // Never: no test of this arm asks for the net of a cell.
-            Change::Add(_) => Processed::None(x),
-            Change::AddNotOf(_) => Processed::None(x),
+            Change::Add(_) | Change::AddNotOf(_) => Ok(Processed::None),
         },
     }
 }
 
 // `SimpleAigOpt::rewrite`
 #[cycle(passes)]
-fn simple_aig_opt(work: &mut [u32], x: Extent, c: Cell) -> Processed
-    requires { Ready x work.old c }
-    ensures { Performs x work.old work.new (opted x work.old c) result }
+fn simple_aig_opt(work: &mut [u32], x: &mut Extent, c: Cell) -> Result<Processed, Full>
+    requires { Ready x.old work.old c }
+    ensures { Performs x.old x.new work.old work.new (opted x.old work.old c) result }
 {
     match c {
-        Cell::Not(a) => rewrite_not(work, x, a),
+        Cell::Not(a) => Ok(rewrite_not(work, *x, a)),
         Cell::Aig(p, q) => rewrite_aig(work, x, p, q),
         Cell::Xor(a, b) => rewrite_xor(work, x, a, b),
         Cell::And(a, b) => rewrite_and(work, x, a, b),
         Cell::Or(a, b) => rewrite_or(work, x, a, b),
-        Cell::Input(_) => Processed::None(x),
-        Cell::Output(_, _) => Processed::None(x),
-        Cell::Buf(_) => Processed::None(x),
-        Cell::Mux(_, _, _) => Processed::None(x),
+        _ => Ok(Processed::None),
     }
 }
 
-// `Rewriter::process_cell` after its loop: the cache is asked.
-fn asked(work: &[u32], x: Extent, c: Cell) -> Processed
-    requires { Held x work.now }
-    ensures { result ≡ asked_of x work.now c }
-{
-    match rewriter_state::known(work, x, c) {
-        Some(n) => Processed::Value(n, x),
-        None => Processed::None(x),
-    }
-}
-
-// What is left of a cell that came from another one is that cell, and not nothing.
-fn as_form(replaced: bool, d: Cell, p: Processed) -> Processed
-    ensures { result ≡ form_of «replaced» d p }
-{
-    match p {
-        Processed::None(x) => {
-            if replaced {
-                return Processed::Cell(d, x);
-            }
-            Processed::None(x)
-        }
-        Processed::Cell(c, x) => Processed::Cell(c, x),
-        Processed::Value(n, x) => Processed::Value(n, x),
-        Processed::Full => Processed::Full,
-    }
-}
-
-// `Rewriter::process_cell`: `Normalize` is asked first, then `SimpleAigOpt`, and another form goes round again.
+// One pass over the rules: `Normalize` is asked first, then `SimpleAigOpt`. It ends as `rewrite_not`: three arms in common, and of None the two
+// make different things.
 #[cycle(passes)]
-pub fn process_cell(work: &mut [u32], x: Extent, c: Cell) -> Processed
-    requires { Ready x work.old c }
-    ensures { Processes x work.old work.new c result }
+fn rules(work: &mut [u32], x: &mut Extent, c: Cell) -> Result<Processed, Full>
+    requires { Ready x.old work.old c }
+    ensures { Performs x.old x.new work.old work.new (ruled x.old work.old c) result }
 {
-    let mut y = x;
+    match normalize::normalize(c) {
+        None => simple_aig_opt(work, x, c),
+        Some(change) => match change {
+            Change::Value(n) => Ok(Processed::Value(n)),
+            Change::Form(d) => Ok(Processed::Cell(d)),
+            // Never: `Normalize` adds no cell.
+            Change::Add(_) | Change::NotOf(_) | Change::AddNotOf(_) => Ok(Processed::None),
+        },
+    }
+}
+
+// `Rewriter::process_cell`: another form goes round again, in a loop that counts nothing; where no rule applies the cache is asked.
+#[cycle(passes)]
+pub fn process_cell(work: &mut [u32], x: &mut Extent, c: Cell) -> Result<Processed, Full>
+    requires { Ready x.old work.old c }
+    ensures { Processes x.old x.new work.old work.new c result }
+{
     let mut d = c;
-    let mut replaced = false;
+    // Beside d, as c itself must answer None: an Option or a flag would be turned into this at the end.
+    let mut left = Processed::None;
     loop {
-        match normalize::normalize(d) {
-            Some(change) => match change {
-                Change::Value(n) => return Processed::Value(n, y),
-                Change::Form(e) => {
-                    d = e;
-                    replaced = true;
-                }
-                // Never: `Normalize` adds no cell.
-                Change::Add(_) => return Processed::Full,
-                Change::NotOf(_) => return Processed::Full,
-                Change::AddNotOf(_) => return Processed::Full,
+        match rules(work, x, d)? {
+            Processed::None => match rewriter_state::known(work, *x, d) {
+                Some(n) => return Ok(Processed::Value(n)),
+                None => return Ok(left),
             },
-            None => match simple_aig_opt(work, y, d) {
-                Processed::None(z) => return as_form(replaced, d, asked(work, z, d)),
-                Processed::Cell(e, z) => {
-                    d = e;
-                    replaced = true;
-                    y = z;
-                }
-                Processed::Value(n, z) => return Processed::Value(n, z),
-                Processed::Full => return Processed::Full,
-            },
+            Processed::Cell(e) => {
+                d = e;
+                left = Processed::Cell(e);
+            }
+            Processed::Value(n) => return Ok(Processed::Value(n)),
         }
     }
 }
 
 // `Rewriter::add_cell`
 #[cycle(passes)]
-pub fn add_cell(work: &mut [u32], x: Extent, c: Cell) -> Added
-    requires { Ready x work.old c }
-    ensures { Adds x work.old work.new c result }
+pub fn add_cell(work: &mut [u32], x: &mut Extent, c: Cell) -> Result<Net, Full>
+    requires { Ready x.old work.old c }
+    ensures { Adds x.old x.new work.old work.new c result }
 {
-    match process_cell(work, x, c) {
-        Processed::None(y) => rewriter_state::enter(work, y, c),
-        Processed::Cell(d, y) => rewriter_state::enter(work, y, d),
-        Processed::Value(n, y) => Added::At(n, y),
-        Processed::Full => Added::Full,
+    match process_cell(work, x, c)? {
+        Processed::None => rewriter_state::enter(work, x, c),
+        Processed::Cell(d) => rewriter_state::enter(work, x, d),
+        Processed::Value(n) => Ok(n),
     }
 }

@@ -1,3 +1,3 @@
 pub mod Looking
 pub mod Words
-pub mod Standing
+pub mod NoSlot

@@ -34,7 +34,7 @@ use Rattle.numberer.proofs.Records.{bit-of, cell-sized}
 use Rattle.numberer.proofs.Inserting.{numberer-stays, entered-stays, mixed-stays}
 use Rattle.rewrite.specs.Rewriter.{Rewriter, entered, finished}
 use Rattle.rewriter_state.specs.declared.Extent.{Extent}
-use Rattle.rewriter_state.specs.inner.Words.{rewriter_in, Held, EntersAt, ReadySlot, Finishes}
+use Rattle.rewriter_state.specs.inner.Words.{with_entry, with_stamp, rewriter_in, Held, EntersAt, ReadySlot, Finishes}
 
 -- the cells of the slots
 cells-table : (n : ℕ) (ws : List ℕ) → (netlist_in n ws).cells ≡ tabulate (λ s. cell_of (word_record ws s)) n
@@ -95,9 +95,6 @@ module _ (ws ws' : List ℕ) (s v : ℕ) (put : ws' ≡ set ws (figures_at + s) 
       )
 
 -- `known`
-pub few-entries : (x : Extent) (ws : List ℕ) → Held x ws → x.entries ≤ 1024
-few-entries x ws g = omega (arith, g.cached, g.timed, g.fit)
-
 pub known-cell : (x : Extent) (ws : List ℕ) (r : Record) (c : Cell) → r ≡ cell_record 0 c → (v : Option Net) → v ≡ seek (numberer_in x.entries ws) (cell_of r)
     → v ≡ seek (rewriter_in x ws).cache c
 unfolding rewriter_in
@@ -169,11 +166,11 @@ module _ (x : Extent) (k : ℕ) (ws ws₁ ws₂ : List ℕ) (s : ℕ) (g : Ready
       }
 
 module _ (x : Extent) (ws ws₁ ws₂ : List ℕ) (s : ℕ) (g : ReadySlot x s ws) (put : ws₂ ≡ set ws₁ (figures_at + s) (x.clock + 1)) where
-  pub stays : (c : Cell) → Inserts x.entries s c ws ws₁
+  stays_at : (c : Cell) → Inserts x.entries s c ws ws₁
       → Finishes s x (record { tickets = x.tickets; slots = x.slots; entries = x.entries + 1; clock = x.clock + 1 }) ws ws₂ (rewriter_in x ws).design
       ((rewriter_in x ws).cache ++ ((c, net_in s) ∷ []))
   unfolding rewriter_in
-  stays c r =
+  stays_at c r =
       let w : Within mixes_at keys_from ws ws₁ = r.frame in
       let fit : x.slots ≤ 1024 = g.held.fit in
       let few : x.tickets ≤ 512 = g.held.few in
@@ -183,17 +180,32 @@ module _ (x : Extent) (ws ws₁ ws₂ : List ℕ) (s : ℕ) (g : ReadySlot x s w
       (rewriter_in x ws).design ((rewriter_in x ws).cache ++ ((c, net_in s) ∷ []))
       (rw (replaced-same x.tickets ws ws₁ (λ i l. w.before (replaced_at + i) (omega arith)))) r.said
 
-  pub replaces : (n : Net) → replaced_in x.tickets ws₁ ≡ set (replaced_in x.tickets ws) s n → Within replaced_at figures_at ws ws₁
+  replaces_at : (n : Net) → replaced_in x.tickets ws₁ ≡ set (replaced_in x.tickets ws) s n → Within replaced_at figures_at ws ws₁
       → Finishes s x (record { tickets = x.tickets; slots = x.slots; entries = x.entries; clock = x.clock + 1 }) ws ws₂ (replace_net (rewriter_in x ws).design s n)
       (rewriter_in x ws).cache
   unfolding rewriter_in
-  replaces n e w =
+  replaces_at n e w =
       finish x x.entries ws ws₁ ws₂ s g (omega arith) (entered-stays replaced_at figures_at ws ws₁ w x.entries (inl (omega arith)) g.held.entries)
       (mixed-stays replaced_at figures_at ws ws₁ w x.entries (inl (omega arith)) g.held.mixed)
       (λ i l. record-kept replaced_at figures_at ws ws₁ w i (inl (omega arith))) (words-kept replaced_at figures_at ws ws₁ w figures_at x.slots (inr (omega arith)))
       (within_wider replaced_at figures_at replaced_at keys_from ws ws₁ (omega arith) (omega arith) w) put
       (replace_net (rewriter_in x ws).design s n) (rewriter_in x ws).cache
       (rw e) (numberer-stays replaced_at figures_at ws ws₁ w x.entries (inl (omega arith)))
+
+-- by the extents on the way
+module _ (x y z : Extent) (ws ws₁ ws₂ : List ℕ) (s : ℕ) (g : ReadySlot x s ws) (z-is : z ≡ with_stamp y) (put : ws₂ ≡ set ws₁ (figures_at + s) (y.clock + 1)) where
+  pub stays : (c : Cell) → y ≡ with_entry x → Inserts x.entries s c ws ws₁
+      → Finishes s x z ws ws₂ (rewriter_in x ws).design ((rewriter_in x ws).cache ++ ((c, net_in s) ∷ []))
+  stays c y-is r =
+      let e : y.clock ≡ x.clock = ap (λ (v : Extent). v.clock) y-is in
+      subst (λ (v : Extent). Finishes s x v ws ws₂ (rewriter_in x ws).design ((rewriter_in x ws).cache ++ ((c, net_in s) ∷ []))) (sym (z-is ∙ ap with_stamp y-is))
+      (stays_at x ws ws₁ ws₂ s g (put ∙ ap (λ (k : ℕ). set ws₁ (figures_at + s) (k + 1)) e) c r)
+
+pub replaces : (x z : Extent) (ws ws₁ ws₂ : List ℕ) (s : ℕ) → ReadySlot x s ws → z ≡ with_stamp x → ws₂ ≡ set ws₁ (figures_at + s) (x.clock + 1) → (n : Net)
+    → replaced_in x.tickets ws₁ ≡ set (replaced_in x.tickets ws) s n → Within replaced_at figures_at ws ws₁
+    → Finishes s x z ws ws₂ (replace_net (rewriter_in x ws).design s n) (rewriter_in x ws).cache
+replaces x z ws ws₁ ws₂ s g z-is put n e w =
+    subst (λ (v : Extent). Finishes s x v ws ws₂ (replace_net (rewriter_in x ws).design s n) (rewriter_in x ws).cache) (sym z-is) (replaces_at x ws ws₁ ws₂ s g put n e w)
 
 -- a record is stored in a slot: the cache, the stamps and the replaced nets stay
 module _ (ws ws₁ : List ℕ) (w : Within 0 visited_at ws ws₁) (x : Extent) where
@@ -371,8 +383,8 @@ module _ (x : Extent) (ws ws₁ ws₂ ws₃ : List ℕ) (c : Cell) (n : Net) (g 
         add-one x.clock,
       )
 
-  pub enters : EntersAt x (record { tickets = x.tickets; slots = x.slots + 1; entries = x.entries + 1; clock = x.clock + 1 }) ws ws₃ c n
-  enters = record {
+  enters_at : EntersAt x (record { tickets = x.tickets; slots = x.slots + 1; entries = x.entries + 1; clock = x.clock + 1 }) ws ws₃ c n
+  enters_at = record {
     at = n-is;
     now = enter-now;
     held = enter-held;
@@ -384,3 +396,12 @@ module _ (x : Extent) (ws ws₁ ws₂ ws₃ : List ℕ) (c : Cell) (n : Net) (g 
       same = rest.same ∙ first.same;
     };
   }
+
+-- by the extents on the way
+pub enters : (x y z : Extent) (ws ws₁ ws₂ ws₃ : List ℕ) (c : Cell) (n : Net) → Held x ws → (x.slots ≡ 1024 → ⊥) → (q : Record) → ws₁ ≡ store_words ws x.slots q
+    → q ≡ cell_record 0 c → y ≡ with_entry x → Inserts x.entries x.slots c ws₁ ws₂ → z ≡ with_stamp y → ws₃ ≡ set ws₂ (figures_at + x.slots) (y.clock + 1)
+    → n ≡ net_in x.slots → EntersAt x (record { tickets = z.tickets; slots = z.slots + 1; entries = z.entries; clock = z.clock }) ws ws₃ c n
+enters x y z ws ws₁ ws₂ ws₃ c n g room q store q-is y-is rem z-is put n-is =
+    let e : y.clock ≡ x.clock = ap (λ (v : Extent). v.clock) y-is in
+    subst (λ (v : Extent). EntersAt x (record { tickets = v.tickets; slots = v.slots + 1; entries = v.entries; clock = v.clock }) ws ws₃ c n) (sym (z-is ∙ ap with_stamp y-is))
+    (enters_at x ws ws₁ ws₂ ws₃ c n g room q store q-is rem (put ∙ ap (λ (k : ℕ). set ws₂ (figures_at + x.slots) (k + 1)) e) n-is)

@@ -10,6 +10,9 @@ use lib.Seq.{sets, sets-eq, length-sets, take-suc, take_all}
 use Rattle.cell.proofs.Laws.{sets-append}
 use Rattle.cell.specs.declared.Record.{Record}
 use Rattle.refusals.specs.declared.Refusal.{Refusal}
+use Rattle.refusals.specs.declared.Refusal.TheVariants.{ShortWork, PartialRecord, TooManyRecords, UnknownKind, ReservedField, BitOutOfSequence, UndrivenOperand, Loop, SlotsExhausted, LevelCount, LevelValue, ShortReply}
+use Rattle.value.specs.declared.Slot.{Slot}
+use Rattle.kinds.specs.declared.Field.{Field}
 use Rattle.refusals.specs.declared.Figures.{Figures}
 use Rattle.refusals.specs.Refusals.{figures}
 use borrow.Rule.Slice.PartMut.{put_mid}
@@ -93,11 +96,29 @@ module _ (numbers t : List ℕ) (at : ℕ) where
         subst (λ (ns : List ℕ). Puts (11 * length numbers + 1) t (set u n 10) at (to_end ns) (n + 1)) (take_all i numbers h)
         (puts_then (11 * i) 1 (11 * length numbers + 1) t u (set u n 10) at n (n + 1) (spaced (take i numbers)) (10 ∷ []) (omega (arith, s.upto)) s.puts (put_byte u n 10))
 
+-- 7 is the number of one refusal alone
+not_7 : (x : Refusal) → ((s : Slot) (d : Field) → x ≡ UndrivenOperand s d → ⊥) → (figures x).number ≡ 7 → ⊥
+not_7 ShortWork h i = omega (arith, i)
+not_7 PartialRecord h i = omega (arith, i)
+not_7 TooManyRecords h i = omega (arith, i)
+not_7 (UnknownKind s) h i = omega (arith, i)
+not_7 (ReservedField s) h i = omega (arith, i)
+not_7 (BitOutOfSequence s) h i = omega (arith, i)
+not_7 (UndrivenOperand s d) h i = h s d refl
+not_7 (Loop s) h i = omega (arith, i)
+not_7 SlotsExhausted h i = omega (arith, i)
+not_7 LevelCount h i = omega (arith, i)
+not_7 (LevelValue k) h i = omega (arith, i)
+not_7 ShortReply h i = omega (arith, i)
+
 -- ---- the two lines
 module _ (t u v : List ℕ) (at m n : ℕ) where
-  pub record-put : (s : ℕ) (r : Record) → Puts 10 t u at (decimal s) m → Puts 67 u v m (to_end (r.kind ∷ r.flags ∷ r.bit ∷ r.a ∷ r.b ∷ r.c ∷ [])) n → Puts 80 t v at (record_line s r) n
+  pub record-put : (s : ℕ) (r : Record) (kind flags bit : ℕ) → kind ≡ r.kind → flags ≡ r.flags → bit ≡ r.bit → Puts 10 t u at (decimal s) m → Puts 67 u v m (to_end (kind ∷ flags ∷ bit ∷ r.a ∷ r.b ∷ r.c ∷ [])) n
+      → Puts 80 t v at (record_line s r) n
   unfolding record_line
-  record-put s r p q = puts_then 10 67 80 t u v at m n (decimal s) (to_end (r.kind ∷ r.flags ∷ r.bit ∷ r.a ∷ r.b ∷ r.c ∷ [])) (omega arith) p q
+  record-put s r kind flags bit k f b p q =
+      puts_then 10 67 80 t u v at m n (decimal s) (to_end (r.kind ∷ r.flags ∷ r.bit ∷ r.a ∷ r.b ∷ r.c ∷ [])) (omega arith) p
+      (subst (λ (ns : List ℕ). Puts 67 u v m (to_end ns) n) (let same : kind ∷ flags ∷ bit ∷ r.a ∷ r.b ∷ r.c ∷ [] ≡ r.kind ∷ r.flags ∷ r.bit ∷ r.a ∷ r.b ∷ r.c ∷ [] = cc in same) q)
 
   refusal-put : (x : Refusal) (f : Figures) → f ≡ figures x → (k : ℕ) → k ≤ 73 → (ns : List ℕ) → ns ≡ refusal_numbers f → Puts 7 t u at refused_word m → Puts k u v m (to_end ns) n
       → Puts 80 t v at (refusal_line x) n
@@ -107,8 +128,8 @@ module _ (t u v : List ℕ) (at m n : ℕ) where
       (puts_then 7 k 80 t u v at m n refused_word (to_end ns) (omega arith) p q)
 
   module _ (x : Refusal) (f : Figures) (e : f ≡ figures x) (p : Puts 7 t u at refused_word m) where
-    pub undriven-put : f.number ≡ 7 → Puts 34 u v m (to_end (f.number ∷ f.place ∷ f.field ∷ [])) n → Puts 80 t v at (refusal_line x) n
-    undriven-put h q = refusal-put x f e 34 (omega arith) (f.number ∷ f.place ∷ f.field ∷ []) (rw (eq-eqb f.number 7 h)) p q
+    pub undriven-put : (s : Slot) (d : Field) → x ≡ UndrivenOperand s d → Puts 34 u v m (to_end (f.number ∷ f.place ∷ f.field ∷ [])) n → Puts 80 t v at (refusal_line x) n
+    undriven-put s d h q = refusal-put x f e 34 (omega arith) (f.number ∷ f.place ∷ f.field ∷ []) (rw (eq-eqb f.number 7 (ap (λ g. g.number) e ∙ ap (λ y. (figures y).number) h))) p q
 
-    pub other-put : (f.number ≡ 7 → ⊥) → Puts 23 u v m (to_end (f.number ∷ f.place ∷ [])) n → Puts 80 t v at (refusal_line x) n
-    other-put h q = refusal-put x f e 23 (omega arith) (f.number ∷ f.place ∷ []) (rw (ne_eqb f.number 7 h)) p q
+    pub other-put : ((s : Slot) (d : Field) → x ≡ UndrivenOperand s d → ⊥) → Puts 23 u v m (to_end (f.number ∷ f.place ∷ [])) n → Puts 80 t v at (refusal_line x) n
+    other-put h q = refusal-put x f e 23 (omega arith) (f.number ∷ f.place ∷ []) (rw (ne_eqb f.number 7 (λ i. not_7 x h (sym (ap (λ g. g.number) e) ∙ i)))) p q

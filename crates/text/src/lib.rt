@@ -1,4 +1,7 @@
 // The lines that are printed. Each function puts something at a place of the text and answers the place behind it.
+// Text and place are two parameters: a struct that holds the `&mut` would owe its ghost name in a clause of each function.
+// No Display: tried, with an `ArrayString<80>` to print into. That `write!` succeeds is promised nowhere, so the goal where it fails stayed open, and
+// these functions cannot fail.
 #![tactic(auto)]
 
 ghost use Rattle.std.specs.Prelude.{◌+◌, ◌*◌, ◌≤◌, length};
@@ -47,7 +50,7 @@ pub fn put_record(text: &mut [u8], at: usize, s: u32, r: Record) -> usize
     requires { at + 80 ≤ length text.old }
     ensures { Puts 80 text.old text.new at (record_line s r) result }
 {
-    let fields = [r.kind as u32, r.flags as u32, r.bit as u32, r.a, r.b, r.c];
+    let fields = [r.kind.into(), r.flags.into(), r.bit.into(), r.a, r.b, r.c];
     let n = put_number(text, at, s);
     put_fields(text, n, &fields)
 }
@@ -59,10 +62,8 @@ pub fn put_refusal(text: &mut [u8], at: usize, x: Refusal) -> usize
 {
     let f = Figures::from(x);
     let n = put_all(text, at, b"refused");
-    if f.number == 7 {
-        let numbers = [f.number, f.place, f.field];
-        return put_fields(text, n, &numbers);
+    match x {
+        Refusal::UndrivenOperand(_, _) => put_fields(text, n, &[f.number, f.place, f.field]),
+        _ => put_fields(text, n, &[f.number, f.place]),
     }
-    let numbers = [f.number, f.place];
-    put_fields(text, n, &numbers)
 }

@@ -1,4 +1,5 @@
 // The calls as C has them: each call, its answer put into eight words and its number returned. The crate `ticket_c` exports them.
+// Compacting, merging and rewriting are three functions of one shape, here and there, since C calls each by its name.
 #![tactic(auto)]
 
 ghost use Rattle.std.specs.Prelude.{◌≡◌, length};

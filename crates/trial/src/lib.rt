@@ -1,6 +1,14 @@
 // A call tried on given slices: what it answers and leaves, held to what it must.
 #![tactic(auto)]
 
+ghost use Rattle.std.specs.Prelude.{◌≡◌, ◌≤◌, length, IfOk, OnOk};
+ghost use Rattle.calls.specs.Answers.{check_figures};
+ghost use Rattle.calls.specs.Calls.{check_answer};
+ghost use Rattle.trial.specs.Trial.{IsTold, IsToldFrom};
+
+mod call;
+
+pub use call::{Compact, Levels, Merge, Replying, Rewrite};
 use litter::Scrap;
 use outcome::{Answer, Expected, Figures, Mismatch};
 
@@ -15,7 +23,9 @@ pub struct Lent<'a, T> {
 
 // Spills a space, and lends its first part. This and the next are no methods of `Lent`: of a struct
 // that holds a `&mut` and is lent on, the borrow checker covers no call yet.
-fn lend<T: Scrap>(space: &mut [T], len: usize, seed: u32) -> Result<&mut [T], Mismatch> {
+fn lend<T: Scrap>(space: &mut [T], len: usize, seed: u32) -> Result<&mut [T], Mismatch>
+    ensures { IfOk result (λ lent. length lent.now ≡ len) }
+{
     if space.len() < len {
         return Err(Mismatch::NoSpace);
     }
@@ -33,7 +43,9 @@ fn left(space: &[u32], len: usize, seed: u32) -> Result<(), Mismatch> {
 }
 
 // The check of a ticket.
-pub fn check(ticket: &[u8], work: Lent<u32>, expected: Figures) -> Result<(), Mismatch> {
+pub fn check(ticket: &[u8], work: Lent<u32>, expected: Figures) -> Result<(), Mismatch>
+    ensures { OnOk result (IsTold (check_figures (check_answer work.entry.len ticket.now)) expected) }
+{
     let Lent { space, len, seed } = work;
     let mut words = [litter::first(seed); 8];
     let number = ticket::cabbagetier_check(ticket, lend(space, len, seed)?, &mut words);
@@ -41,16 +53,15 @@ pub fn check(ticket: &[u8], work: Lent<u32>, expected: Figures) -> Result<(), Mi
     Answer { number, words }.judge(expected)
 }
 
-// A call that writes a reply, of its work slice, its reply and its answer words.
-pub fn replying<F>(
-    call: F,
+// A call that writes a reply.
+pub fn replying<C: Replying>(
+    call: C,
+    ticket: &[u8],
     work: Lent<u32>,
     reply: Lent<u8>,
     expected: Expected,
 ) -> Result<(), Mismatch>
-where
-    F: FnOnce(&mut [u32], &mut [u8], &mut [u32; 8]) -> u32,
-    requires { F.IsAlwaysCallable call }
+    ensures { OnOk result (IsToldFrom reply.entry.len (C.told call ticket.now work.entry.len) expected.figures) }
 {
     let Lent { space, len, seed } = work;
     let Lent {
@@ -59,7 +70,8 @@ where
         seed: byte_seed,
     } = reply;
     let mut words = [litter::first(seed); 8];
-    let number = call(
+    let number = call.call(
+        ticket,
         lend(space, len, seed)?,
         lend(bytes, byte_len, byte_seed)?,
         &mut words,

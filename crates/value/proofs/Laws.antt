@@ -40,10 +40,6 @@ pub control-test : Decides eq_control
 control-test = decides eq_control control-same control-self
 
 -- a net and what drives it
-pub small-defined : (n : Net) → n.0 < 2 → eq_net n UNDEF ≡ false
-unfolding eq_net
-small-defined n h = ne_eqb n.0 4294967295 (λ e. omega arith)
-
 abbrev driven_by : Driver → Net
 driven_by (Const t) = from_trit t
 driven_by (Cell s) = net_of s
@@ -182,3 +178,8 @@ not-fixed (Pos n) =
     (λ t e. ap (λ t. Pos (from_trit t)) (level-fixed t (const_inj (not_level t) t (ap net (sym (not-const t) ∙ e)))))
     (λ n h e. cc (not-cell n h)) n
 not-fixed (Neg n) = λ e. cc (not_neg n)
+
+-- negative is what is not positive
+pub negative_is : (p : ControlNet) → not (is_positive p) ≡ is_negative p
+negative_is (Pos n) = refl
+negative_is (Neg n) = refl

@@ -9,6 +9,7 @@ use Rattle.std.specs.Ordering.{is_le, is_gt, nat_cmp, partial_le, partial_gt}
 use Rattle.std.proofs.lemmas.Bool.Decides.{nat_tests}
 use Rattle.value.specs.declared.Net.{Net}
 use Rattle.value.specs.contracts.ControlNetPartialEq.TheImpl.{eq-value}
+use Rattle.value.specs.contracts.NetPartialEq.TheImpl as of_net
 use Rattle.value.specs.contracts.ControlNetPartialOrd.TheImpl.{partial_cmp-value}
 use Rattle.value.specs.declared.ControlNet.{ControlNet}
 use Rattle.value.specs.declared.ControlNet.TheVariants.{Pos, Neg}
@@ -61,7 +62,11 @@ control-trans (Neg a) (Neg b) (Neg c) p q = net-order.trans a b c p q
 pub control-order : Order le_control
 control-order = record { total = control-total; antisym = control-antisym; trans = control-trans }
 
--- what `==`, `<=` and `>` answer; `==` of nets computes to `eq_net`
+-- what `==`, `<=` and `>` answer
+pub net_eq-is : (a b : Net) → of_net.eq-value.it a b ≡ eq_net a b
+unfolding eq_net
+net_eq-is a b = refl
+
 pub net_le-is : (a b : Net) → is_le (nat_cmp a.0 b.0) ≡ le_net a b
 unfolding le_net
 net_le-is a b = grind (arith, nat_tests)

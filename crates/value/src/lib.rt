@@ -7,7 +7,7 @@ ghost use Rattle.value.specs.Value.{net_of, driver, from_net_invert, net, is_pos
 use logic::Trit;
 use std::ops::Not;
 
-// A net's index: 0 and 1 are the constants zero and one, 4294967295 is undefined, any other is a slot's number plus two.
+// A net's index, a number as it stands in a ticket: 0 and 1 are the constants zero and one, 4294967295 is undefined, any other is a slot's number plus two.
 // By index, so undefined is last.
 #[derive(Clone, Copy, Debug, PartialEq, Eq, PartialOrd, Ord, Hash)]
 pub struct Net(pub u32);
@@ -16,14 +16,14 @@ pub struct Net(pub u32);
 #[derive(Clone, Copy, Debug, PartialEq, Eq, PartialOrd, Ord, Hash)]
 pub struct Slot(pub u32);
 
-// A net that can be negated: all positive before all negative, then by index.
+// A net that can be negated, as in the Rust; neither variant is a failure. All positive before all negative, then by index.
 #[derive(Clone, Copy, Debug, PartialEq, Eq, PartialOrd, Ord, Hash)]
 pub enum ControlNet {
     Pos(Net),
     Neg(Net),
 }
 
-// What drives a net.
+// What drives a net. No Result, as it is in the Rust: neither side is a failure, and `Const` and `Cell` say which is which.
 #[derive(Clone, Copy, Debug, PartialEq, Eq)]
 pub enum Driver {
     Const(Trit),
@@ -44,6 +44,7 @@ impl Net {
         Net(s.0 + 2)
     }
 
+    #[tactic(auto, unfolding(crate::specs::Value::driver, crate::specs::Value::eq_net))]
     pub fn as_cell_index(self) -> Driver
         ensures { result ≡ driver self }
     {
@@ -76,29 +77,24 @@ impl ControlNet {
         ensures { result ≡ net self }
     {
         match self {
-            ControlNet::Pos(n) => n,
-            ControlNet::Neg(n) => n,
+            ControlNet::Pos(n) | ControlNet::Neg(n) => n,
         }
     }
 
     pub fn is_positive(self) -> bool
         ensures { result ≡ is_positive self }
     {
-        match self {
-            ControlNet::Pos(_) => true,
-            ControlNet::Neg(_) => false,
-        }
+        matches!(self, ControlNet::Pos(_))
     }
 
+    #[tactic(auto, using(crate::proofs::Laws::negative_is))]
     pub fn is_negative(self) -> bool
         ensures { result ≡ is_negative self }
     {
-        match self {
-            ControlNet::Pos(_) => false,
-            ControlNet::Neg(_) => true,
-        }
+        !self.is_positive()
     }
 
+    #[tactic(auto, unfolding(crate::specs::Value::is_always, crate::specs::Value::eq_net))]
     pub fn is_always(self, active: bool) -> bool
         ensures { result ≡ is_always self active }
     {
@@ -121,6 +117,7 @@ impl ControlNet {
     }
 
     // A negated constant is a constant.
+    #[tactic(auto, unfolding(crate::specs::Value::canonicalize, crate::specs::Value::eq_net))]
     pub fn canonicalize(self) -> ControlNet
         ensures { result ≡ canonicalize self }
     {
@@ -147,6 +144,7 @@ impl Not for ControlNet {
 
     ghost not_gives = { λ p r. r ≡ not_control p };
 
+    #[tactic(auto, unfolding(crate::specs::Value::not_control))]
     fn not(self) -> ControlNet {
         match self {
             ControlNet::Pos(n) => ControlNet::Neg(n).canonicalize(),

@@ -10,7 +10,7 @@ use borrow.Author.Rules.{rules}
 use Rattle.cell_order.proofs.+cells.Goals as goal
 
 pub visit_cell-walk_deps-c-requires : goal.visit_cell-walk_deps-c-requires
-visit_cell-walk_deps-c-requires t c = (search (marked-falls, lit≤, tt), (search marked-ready, search new-below))
+visit_cell-walk_deps-c-requires t c = (search (marked-falls, lit≤), (search marked-ready, search new-below))
 
 pub visit_cell-overflow_add-result : goal.visit_cell-overflow_add-result
 visit_cell-overflow_add-result t c = search cell-next

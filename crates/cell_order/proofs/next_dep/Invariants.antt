@@ -3,8 +3,8 @@ use Prim.Native.Nat.{◌-◌}
 use Rattle.cell_order.proofs.Lowest.{Scanning}
 use Rattle.cell_order.proofs.next_dep.Given as goal
 
-abbrev pub invariant-loop-n : goal.invariant-loop-n
-invariant-loop-n l = Scanning l.n l.work l.from l.initial.i l.best l.i
+abbrev pub invariant-loop-search : goal.invariant-loop-search
+invariant-loop-search l = Scanning l.n l.work l.from l.initial.i l.best l.i
 
-abbrev pub decreases-loop-n : goal.decreases-loop-n
-decreases-loop-n l = l.n - l.i
+abbrev pub decreases-loop-search : goal.decreases-loop-search
+decreases-loop-search l = l.n - l.i

@@ -5,8 +5,8 @@ use Rattle.compact.proofs.compact.Goals as goal
 pub loop-s-init : goal.loop-s-init
 loop-s-init c = search writing-none
 
-pub copy_kept-requires : goal.copy_kept-requires
-copy_kept-requires c = record { tallied = search rules; s_lt_n = search rules; total_in_bounds = search writing-room }
+pub copy-requires : goal.copy-requires
+copy-requires c = record { s_lt_n = search rules; total_in_bounds = search writing-room }
 
 pub loop-s-preserved : goal.loop-s-preserved
 loop-s-preserved c = search writing_more

@@ -38,6 +38,12 @@ pub record Passed (t ws : List ℕ) : Type 0 where
   pub few : length t / 16 ≤ max_records
   pub pass : first_of (netlist_stages (records_of t)) ≡ Ok tt
 
+-- the records of a ticket that passed stand in the first n slots of a work slice that is long enough
+pub record Loaded (n : ℕ) (ws : List ℕ) : Type 0 where
+  pub long : work_words ≤ length ws
+  pub few : n ≤ max_records
+  pub pass : first_of (netlist_stages (records_in n ws)) ≡ Ok tt
+
 -- 1 to 8 decided, and wiping the words leaves what it would have left before; a slice that is too short is as it was
 pub record Begins (t ws ws' : List ℕ) (v : Verdict) : Type 0 where
   pub said : v ≡ first_of (check_stages (length ws) t)
@@ -45,27 +51,27 @@ pub record Begins (t ws ws' : List ℕ) (v : Verdict) : Type 0 where
   pub short : length ws < work_words → ws' ≡ ws
   pub pass : v ≡ Ok tt → Passed t ws'
 
--- a call's own step: what it may answer and leave, of the work slice and the reply
+-- a call's own step: what it may answer and leave, of the work slice and the reply, by the number of records
 abbrev pub Step : Type 0 → Type 0 → Type 1
-Step F A = Once F (MutBor (List ℕ) × (MutBor (List ℕ) × Unit {0})) (Result A Refusal × (MutBor (List ℕ) × (MutBor (List ℕ) × Unit {0})))
+Step F A = Once F (MutBor (List ℕ) × (ℕ × (MutBor (List ℕ) × Unit {0}))) (Result A Refusal × (MutBor (List ℕ) × (MutBor (List ℕ) × Unit {0})))
 
-pub record Gives {F A : Type 0} (g : Step F A) (f : F) (ws ws' reply reply' : List ℕ) (r : Result A Refusal) : Type 0 where
+pub record Gives {F A : Type 0} (g : Step F A) (f : F) (n : ℕ) (ws ws' reply reply' : List ℕ) (r : Result A Refusal) : Type 0 where
   pub words : MutBor (List ℕ)
   pub room : MutBor (List ℕ)
   pub words' : MutBor (List ℕ)
   pub room' : MutBor (List ℕ)
   pub shows : (words.now ≡ ws) × (room.now ≡ reply)
-  pub met : g.post f (words, (room, tt)) (r, (words', (room', tt)))
+  pub met : g.post f (words, (n, (room, tt))) (r, (words', (room', tt)))
   pub leaves : (words'.now ≡ ws') × (room'.now ≡ reply')
 
--- it may be taken with a ticket that passed
+-- it may be taken where a ticket that passed is loaded
 abbrev pub Takes : {F A : Type 0} → Step F A → F → List ℕ → Type 0
-Takes g f t = (words room : MutBor (List ℕ)) → Passed t words.now → g.pre f (words, (room, tt))
+Takes g f t = (words room : MutBor (List ℕ)) (n : ℕ) → Loaded n words.now → records_in n words.now ≡ records_of t → g.pre f (words, (n, (room, tt)))
 
 -- and then it decides by stages of its own
 abbrev pub StepDecides : {F A : Type 0} → Step F A → F → A → List Stage → List ℕ → List ℕ → List ℕ → Type 0
-StepDecides {F} {A} g f told own bytes t reply = (ws ws' reply' : List ℕ) (r : Result A Refusal) → Passed t ws → Gives g f ws ws' reply reply' r
-    → Decides (λ v. answer_by v told) own bytes ws ws' reply reply' r
+StepDecides {F} {A} g f told own bytes t reply = (n : ℕ) (ws ws' reply' : List ℕ) (r : Result A Refusal) → Loaded n ws → records_in n ws ≡ records_of t
+    → Gives g f n ws ws' reply reply' r → Decides (λ v. answer_by v told) own bytes ws ws' reply reply' r
 
 -- 1 to 8 and then those decided answer and reply, and the work slice is wiped
 pub record Called {A : Type 0} (told : A) (own : List Stage) (bytes t ws ws' reply reply' : List ℕ) (r : Result A Refusal) : Type 0 where

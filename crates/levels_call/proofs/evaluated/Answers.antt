@@ -1,13 +1,12 @@
 -- `levels_call::evaluated` meets its contract. Assumes nothing.
-use borrow.Author.Rules.{rules}
 use Rattle.std.proofs.lemmas.Result.{err_from_is_err_and}
 use Rattle.levels_call.proofs.Answering.{stimulus-refused, stimulus-passed}
 use Rattle.levels_call.proofs.evaluated.Goals as goal
 
 pub returns-in_err-stimulus_verdict : goal.returns-in_err-stimulus_verdict
-returns-in_err-stimulus_verdict c =
+returns-in_err-stimulus_verdict c t loaded =
     let p = err_from_is_err_and c.from_residual.result c.from_residual.ensures.1 in
-    rw (p.1, p.2) (stimulus-refused _ _ c.requires _ _ _ _ (search rules) (search rules) _ c.in_err-stimulus_verdict.ensures)
+    rw (p.1, p.2) (stimulus-refused _ _ _ c.requires loaded _ _ _ c.in_err-stimulus_verdict.ensures)
 
 pub returns : goal.returns
-returns c = stimulus-passed _ _ c.requires _ _ _ _ (search rules) (search rules) c.in_ok-stimulus_verdict.ensures _ _ _ c.written.ensures
+returns c t loaded = stimulus-passed _ _ _ c.requires loaded _ _ c.in_ok-stimulus_verdict.ensures _ _ _ c.written.ensures

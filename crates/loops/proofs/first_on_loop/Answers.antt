@@ -1,9 +1,6 @@
 -- `loops::first_on_loop` meets its contract. Assumes nothing.
-use Rattle.loops.proofs.Search.{seeking-begins, seeking-more, seeking-found, seeking-ends}
+use Rattle.loops.proofs.Search.{seeking-more, seeking-found, seeking-ends}
 use Rattle.loops.proofs.first_on_loop.Goals as goal
-
-pub loop-s-init : goal.loop-s-init
-loop-s-init c = search seeking-begins
 
 pub returns-then-is_on_loop : goal.returns-then-is_on_loop
 returns-then-is_on_loop c = search seeking-found

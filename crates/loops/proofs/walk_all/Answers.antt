@@ -1,5 +1,5 @@
 -- `loops::walk_all` meets its contract. Assumes nothing.
-use Rattle.loops.proofs.Search.{going-begins, going-coming, going_more, going-stuck, going-ends}
+use Rattle.loops.proofs.Search.{going-begins, going-coming, going_more, going-ends}
 use Rattle.loops.proofs.walk_all.Goals as goal
 
 pub loop-i-init : goal.loop-i-init
@@ -7,9 +7,6 @@ loop-i-init c = search going-begins
 
 pub meet-clock-requires : goal.meet-clock-requires
 meet-clock-requires c = search going-coming
-
-pub returns-then-clock-eq0 : goal.returns-then-clock-eq0
-returns-then-clock-eq0 c = search going-stuck
 
 pub loop-i-preserved : goal.loop-i-preserved
 loop-i-preserved c = search going_more

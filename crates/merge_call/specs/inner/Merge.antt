@@ -1,7 +1,6 @@
 -- What the parts of the call of merge tell. Public contracts do not cite this file. Assumes nothing: these are definitions.
 use Rattle.refusals.specs.declared.Refusal.{Refusal}
-use Rattle.refusals.specs.Refusals.{Verdict}
-use Rattle.std.specs.Prelude.{◌≡◌, Bool, List, [], ◌∷◌, ℕ, length, drop, Ok, Err, Result}
+use Rattle.std.specs.Prelude.{◌≡◌, Bool, List, [], ◌∷◌, ℕ, length, drop, Result}
 use Rattle.cell.specs.Limits.{work_words}
 use Rattle.netlist.specs.inner.Areas.{records_in}
 use Rattle.netlist.specs.Netlist.{netlist_of}

@@ -3,4 +3,4 @@ use Rattle.netlist.proofs.Cells.{source-word}
 use Rattle.netlist.proofs.is_source.Goals as goal
 
 pub returns : goal.returns
-returns c = c.is_source.ensures ∙ source-word _ _ _ c.get_or.ensures
+returns c = c.is_source.ensures ∙ source-word _ _ _ c.kind_in.ensures

@@ -7,6 +7,7 @@ use Rattle.kinds.specs.Kinds.{is_known, kind_of, number_of, is_used, is_operand_
 use Rattle.cell.specs.declared.Record.{Record}
 use Rattle.cell.specs.Operands.{field_of, is_operand}
 use Rattle.cell.specs.Records.{record_of, cell_of, cell_record}
+use Rattle.netlist.specs.declared.fields.Operands.{Operands}
 use Rattle.netlist.specs.Shape.{visit_mut}
 
 -- what the cell of a record keeps of it
@@ -19,6 +20,10 @@ plain_fields r =
 -- the net in a field; a constant where there is none
 unfoldable pub operand_at : Record → ℕ → Net
 operand_at r f = net_at (cond (is_operand r f) (field_of r f) 0)
+
+-- the nets in all fields
+unfoldable pub field_operands : Record → Operands
+field_operands r = record { 0 = operand_at r 1; 1 = operand_at r 2; 2 = operand_at r 3 }
 
 -- the record with other nets where there are any
 abbrev pub field_with : Record → ℕ → Net → ℕ

@@ -3,4 +3,4 @@ use Rattle.numberer.proofs.Mixing.{looked_at, Counting}
 use Rattle.numberer.proofs.count_mix.Given as goal
 
 abbrev pub invariant-loop-m : goal.invariant-loop-m
-invariant-loop-m l = Counting l.x (looked_at l.k l.work) l.m-index l.count
+invariant-loop-m l = Counting l.x (looked_at l.end l.work) l.m-index l.count

@@ -1,8 +1,6 @@
 -- `order::operands_at` meets its contract. Assumes nothing.
-use Rattle.order.specs.inner.Descent.{field_operands}
 use Rattle.order.proofs.Fields.{field-operands}
 use Rattle.order.proofs.operands_at.Goals as goal
 
 pub returns : goal.returns
-unfolding field_operands
 returns c = rw (← field-operands) cc

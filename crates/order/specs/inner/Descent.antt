@@ -8,9 +8,8 @@ use Rattle.cell.specs.declared.Cell.TheVariants.{Input, Output, Buf, Not, And, O
 use Rattle.cell.specs.Records.{cell_of}
 use Rattle.basics.specs.Lists.{those}
 use Rattle.netlist.specs.Shape.{is_source}
-use Rattle.netlist.specs.inner.Fields.{operand_at}
 use Rattle.netlist.specs.Netlist.{cell_in, driven_by}
-use Rattle.order.specs.declared.Operands.{Operands}
+use Rattle.netlist.specs.declared.fields.Operands.{Operands}
 
 -- the operands of a cell by field, and a constant where there is none
 unfoldable pub operands_of : Cell → Operands
@@ -23,10 +22,6 @@ operands_of (Or a b) = record { 0 = a; 1 = b; 2 = ZERO }
 operands_of (Xor a b) = record { 0 = a; 1 = b; 2 = ZERO }
 operands_of (Mux a b c) = record { 0 = a; 1 = b; 2 = c }
 operands_of (Aig p q) = record { 0 = net p; 1 = net q; 2 = ZERO }
-
--- the same by the fields of a record
-unfoldable pub field_operands : Record → Operands
-field_operands r = record { 0 = operand_at r 1; 1 = operand_at r 2; 2 = operand_at r 3 }
 
 -- the bit that a net leads down to: its slot unless that is a source
 unfoldable pub bits_of : List Record → Net → List ℕ

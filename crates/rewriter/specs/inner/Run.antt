@@ -15,7 +15,7 @@ use Rattle.order_laws.specs.Ordered.{OnceAfter, FedAfter}
 use Rattle.order_laws.specs.Members.{Wired}
 use Rattle.rewrite_laws.specs.State.{State}
 use Rattle.rewriter_state.specs.declared.Extent.{Extent}
-use Rattle.rewriter.specs.declared.Full.{Full}
+use Rattle.rewriter_state.specs.declared.Full.{Full}
 use Rattle.rewriter_state.specs.inner.Words.{stamps_at, rewriter_in, Held, ReadySlot}
 use Rattle.rewriter_cycle.specs.inner.Cycle.{Running, Ready}
 
@@ -35,13 +35,13 @@ pub record Went (k : ℕ) (x x' : Extent) (ws ws' : List ℕ) (y : Run) : Type 0
   pub left : Between x x' ws ws'
   pub clock : x'.clock + x.slots ≤ x.clock + x'.slots + k
 
--- what an item of the bit order leaves; or no slot is left
+-- an item of the bit order is done, or no slot is left
 abbrev pub Step : Type 0
-Step = Result Extent Full
+Step = Result (Unit {0}) Full
 
-abbrev pub Goes : ℕ → Extent → List ℕ → List ℕ → Run → Step → Type 0
-Goes k x ws ws' y (Ok x') = Went k x x' ws ws' y
-Goes k x ws ws' y (Err e) = (1024 < slots_of y) × Within 0 keys_from ws ws'
+abbrev pub Goes : ℕ → Extent → Extent → List ℕ → List ℕ → Run → Step → Type 0
+Goes k x x' ws ws' y (Ok u) = Went k x x' ws ws' y
+Goes k x x' ws ws' y (Err e) = (1024 < slots_of y) × Within 0 keys_from ws ws'
 
 -- what is asked: of a slot with its mapped cell; of an item, which comes after what it depends on; and of the first k items of the order,
 -- before which nothing was done, with room for a stamp each
@@ -71,17 +71,17 @@ pub record ReadyItems (x : Extent) (k : ℕ) (ws : List ℕ) : Type 0 where
   pub room : x.clock + k ≤ x.slots
 
 -- what is told: a bit of a gate and an and-inverter, one item, and the first k items of the order
-pub record RunsBit (x : Extent) (s : ℕ) (ws ws' : List ℕ) (c : Cell) (r : Step) : Type 0 where
-  pub said : Goes 1 x ws ws' (bit_done s (add_cell find_new_cell (rewriter_in x ws) c)) r
+pub record RunsBit (x x' : Extent) (s : ℕ) (ws ws' : List ℕ) (c : Cell) (r : Step) : Type 0 where
+  pub said : Goes 1 x x' ws ws' (bit_done s (add_cell find_new_cell (rewriter_in x ws) c)) r
 
-pub record RunsCell (x : Extent) (s : ℕ) (ws ws' : List ℕ) (c : Cell) (r : Step) : Type 0 where
-  pub said : Goes 1 x ws ws' (cell_done s c (process_cell find_new_cell (rewriter_in x ws) c)) r
+pub record RunsCell (x x' : Extent) (s : ℕ) (ws ws' : List ℕ) (c : Cell) (r : Step) : Type 0 where
+  pub said : Goes 1 x x' ws ws' (cell_done s c (process_cell find_new_cell (rewriter_in x ws) c)) r
 
-pub record RunsItem (x : Extent) (s : ℕ) (ws ws' : List ℕ) (r : Step) : Type 0 where
-  pub said : Goes 1 x ws ws' (run_item find_new_cell s (rewriter_in x ws)) r
+pub record RunsItem (x x' : Extent) (s : ℕ) (ws ws' : List ℕ) (r : Step) : Type 0 where
+  pub said : Goes 1 x x' ws ws' (run_item find_new_cell s (rewriter_in x ws)) r
 
-pub record RunsItems (x : Extent) (k : ℕ) (ws ws' : List ℕ) (r : Step) : Type 0 where
-  pub said : Goes k x ws ws' (run_items find_new_cell (words_in order_at k ws) (rewriter_in x ws)) r
+pub record RunsItems (x x' : Extent) (k : ℕ) (ws ws' : List ℕ) (r : Step) : Type 0 where
+  pub said : Goes k x x' ws ws' (run_items find_new_cell (words_in order_at k ws) (rewriter_in x ws)) r
 
 -- before the first item: the ticket's slots are all, and nothing is cached
 abbrev pub first : ℕ → Extent

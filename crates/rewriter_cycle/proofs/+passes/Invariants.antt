@@ -1,5 +1,5 @@
--- The proof of the cycle of rules and adder. The number that falls is eight times the weight of the cell at hand, and a rank by the member: 0 for the arms of
--- `SimpleAigOpt`, 1 for `simple_aig_opt`, 2 for `process_cell`, 3 for `add_cell`. Assumes nothing.
+-- The proof of the cycle of rules and adder. The number that falls is eight times the weight of the cell at hand, and a rank by the member: 0 for the
+-- arms of `SimpleAigOpt`, 1 for `simple_aig_opt`, 2 for `rules`, 3 for `process_cell`, 4 for `add_cell`. Assumes nothing.
 use Prim.Native.Nat.{◌+◌, ◌*◌}
 use Rattle.cell.specs.declared.Cell.TheVariants.{And, Or, Xor, Aig}
 use Rattle.rewrite.specs.Rewriter.{weight}
@@ -8,28 +8,31 @@ use Rattle.rewriter_cycle.proofs.Passes.{Forms}
 use Rattle.rewriter_cycle.proofs.+passes.Given as goal
 
 abbrev pub decreases-add_cell : goal.decreases-add_cell
-decreases-add_cell l = 8 * weight (rewriter_in l.x l.work.now).stamps l.c + 3
+decreases-add_cell l = 8 * weight (rewriter_in l.x.now l.work.now).stamps l.c + 4
 
 abbrev pub decreases-process_cell : goal.decreases-process_cell
-decreases-process_cell l = 8 * weight (rewriter_in l.x l.work.now).stamps l.c + 2
+decreases-process_cell l = 8 * weight (rewriter_in l.x.now l.work.now).stamps l.c + 3
 
-abbrev pub decreases-rewrite_aig : goal.decreases-rewrite_aig
-decreases-rewrite_aig l = 8 * weight (rewriter_in l.x l.work.now).stamps (Aig l.p l.q)
-
-abbrev pub decreases-rewrite_and : goal.decreases-rewrite_and
-decreases-rewrite_and l = 8 * weight (rewriter_in l.x l.work.now).stamps (And l.a l.b)
-
-abbrev pub decreases-rewrite_or : goal.decreases-rewrite_or
-decreases-rewrite_or l = 8 * weight (rewriter_in l.x l.work.now).stamps (Or l.a l.b)
-
-abbrev pub decreases-rewrite_xor : goal.decreases-rewrite_xor
-decreases-rewrite_xor l = 8 * weight (rewriter_in l.x l.work.now).stamps (Xor l.a l.b)
+abbrev pub decreases-rules : goal.decreases-rules
+decreases-rules l = 8 * weight (rewriter_in l.x.now l.work.now).stamps l.c + 2
 
 abbrev pub decreases-simple_aig_opt : goal.decreases-simple_aig_opt
-decreases-simple_aig_opt l = 8 * weight (rewriter_in l.x l.work.now).stamps l.c + 1
+decreases-simple_aig_opt l = 8 * weight (rewriter_in l.x.now l.work.now).stamps l.c + 1
 
-abbrev pub invariant-process_cell-loop-change : goal.invariant-process_cell-loop-change
-invariant-process_cell-loop-change l = Forms l.initial.y l.initial.work l.initial.d l.y l.work l.d l.replaced
+abbrev pub decreases-rewrite_aig : goal.decreases-rewrite_aig
+decreases-rewrite_aig l = 8 * weight (rewriter_in l.x.now l.work.now).stamps (Aig l.p l.q)
 
-abbrev pub decreases-process_cell-loop-change : goal.decreases-process_cell-loop-change
-decreases-process_cell-loop-change l = weight (rewriter_in l.y l.work).stamps l.d
+abbrev pub decreases-rewrite_and : goal.decreases-rewrite_and
+decreases-rewrite_and l = 8 * weight (rewriter_in l.x.now l.work.now).stamps (And l.a l.b)
+
+abbrev pub decreases-rewrite_or : goal.decreases-rewrite_or
+decreases-rewrite_or l = 8 * weight (rewriter_in l.x.now l.work.now).stamps (Or l.a l.b)
+
+abbrev pub decreases-rewrite_xor : goal.decreases-rewrite_xor
+decreases-rewrite_xor l = 8 * weight (rewriter_in l.x.now l.work.now).stamps (Xor l.a l.b)
+
+abbrev pub invariant-process_cell-loop-work : goal.invariant-process_cell-loop-work
+invariant-process_cell-loop-work l = Forms l.initial.x l.initial.work l.initial.d l.x l.work l.d l.left
+
+abbrev pub decreases-process_cell-loop-work : goal.decreases-process_cell-loop-work
+decreases-process_cell-loop-work l = weight (rewriter_in l.x l.work).stamps l.d

@@ -1,6 +1,6 @@
 -- The state of the rewriter in the words of the work slice. Public contracts do not cite this file: at return the words are 0. Assumes nothing: these are
 -- definitions.
-use Rattle.std.specs.Prelude.{◌≡◌, List, [], ◌∷◌, ◌++◌, ℕ, ◌+◌, ◌≤◌, ◌<◌, length, get_or}
+use Rattle.std.specs.Prelude.{◌≡◌, List, [], ◌∷◌, ◌++◌, ℕ, ◌+◌, ◌≤◌, ◌<◌, length, get_or, Result, Ok, Err}
 use Rattle.value.specs.declared.Net.{Net}
 use Rattle.cell.specs.declared.Cell.{Cell}
 use Rattle.netlist.specs.inner.Areas.{word_record, words_in, replaced_at, figures_at, Within, keys_from, mixes_at, visited_at}
@@ -10,8 +10,7 @@ use Rattle.design.specs.inner.Words.{netlist_in, replaced_in}
 use Rattle.numberer.specs.inner.Words.{numberer_in, Entered, Mixed}
 use Rattle.rewrite.specs.Rewriter.{Rewriter, entered, finished}
 use Rattle.rewriter_state.specs.declared.Extent.{Extent}
-use Rattle.rewriter_state.specs.declared.Added.{Added}
-use Rattle.rewriter_state.specs.declared.Added.TheVariants.{At, Full}
+use Rattle.rewriter_state.specs.declared.Full.{Full}
 
 -- stamps stand a word a slot, where `levels` has its figures
 abbrev pub stamps_at : ℕ
@@ -57,6 +56,13 @@ pub record Onward (x x' : Extent) : Type 0 where
   pub slots : x.slots ≤ x'.slots
   pub clock : x'.clock + x.slots ≡ x.clock + x'.slots
 
+-- one more entry is cached; one more stamp is given
+abbrev pub with_entry : Extent → Extent
+with_entry x = record x { entries = x.entries + 1 }
+
+abbrev pub with_stamp : Extent → Extent
+with_stamp x = record x { clock = x.clock + 1 }
+
 -- a cell is added in the next slot
 pub record EntersAt (x x' : Extent) (ws ws' : List ℕ) (c : Cell) (n : Net) : Type 0 where
   pub at : n ≡ net_in x.slots
@@ -65,9 +71,9 @@ pub record EntersAt (x x' : Extent) (ws ws' : List ℕ) (c : Cell) (n : Net) : T
   pub onward : Onward x x'
   pub changes : Changes x ws ws'
 
-abbrev pub Enters : Extent → List ℕ → List ℕ → Cell → Added → Type 0
-Enters x ws ws' c (At n x') = EntersAt x x' ws ws' c n
-Enters x ws ws' c Full = (x.slots ≡ 1024) × Within 0 keys_from ws ws'
+abbrev pub Enters : Extent → Extent → List ℕ → List ℕ → Cell → Result Net Full → Type 0
+Enters x x' ws ws' c (Ok n) = EntersAt x x' ws ws' c n
+Enters x x' ws ws' c (Err e) = (x.slots ≡ 1024) × Within 0 keys_from ws ws'
 
 -- a slot of the ticket may be finished: there is room for its stamp
 pub record ReadySlot (x : Extent) (s : ℕ) (ws : List ℕ) : Type 0 where

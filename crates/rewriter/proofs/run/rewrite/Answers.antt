@@ -6,10 +6,10 @@ pub run_items-requires : goal.run_items-requires
 run_items-requires c = search run-ready
 
 pub apply_all-requires : goal.apply_all-requires
-apply_all-requires c = let h = c.in_ok-x.ensures in search run-running
+apply_all-requires c = let h = c.in_ok-run_items.ensures in search run-running
 
 pub returns : goal.returns
-returns c = let h = c.in_ok-x.ensures in search run-rewritten
+returns c = let h = c.in_ok-run_items.ensures in search run-rewritten
 
-pub returns-in_err-x : goal.returns-in_err-x
-returns-in_err-x c = let h = c.in_err-x.ensures in let f = c.from_residual.ensures.0 in search run-full
+pub returns-in_err-run_items : goal.returns-in_err-run_items
+returns-in_err-run_items c = run-full _ _ _ _ c.begin-count.ensures c.requires.work_value c.requires.n_bound c.requires.in_bounds _ _ _ _ c.in_err-run_items.ensures c.from_residual.ensures.0

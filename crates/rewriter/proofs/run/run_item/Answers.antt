@@ -1,9 +1,6 @@
 -- `rewriter::run::run_item` meets its contract. Assumes nothing.
-use Rattle.rewriter.proofs.Items.{item-slot, item-ready, item-effects, item-bit, item-cell}
+use Rattle.rewriter.proofs.Items.{item-ready, item-effects, item-bit, item-cell}
 use Rattle.rewriter.proofs.run.run_item.Goals as goal
-
-pub mapped_cell-c-requires : goal.mapped_cell-c-requires
-mapped_cell-c-requires c = search item-slot
 
 pub returns-then-has_effects : goal.returns-then-has_effects
 returns-then-has_effects c = search item-effects

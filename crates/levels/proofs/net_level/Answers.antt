@@ -1,8 +1,0 @@
-use Rattle.levels.proofs.Cells.{net-const, net-cell}
-use Rattle.levels.proofs.net_level.Goals as goal
-
-pub returns-in-Const : goal.returns-in-Const
-returns-in-Const c = search net-const
-
-pub returns-in-Cell : goal.returns-in-Cell
-returns-in-Cell c = search net-cell

@@ -1,4 +1,0 @@
-use Rattle.levels.proofs.put_level.Goals as goal
-
-pub returns : goal.returns
-returns c = cc
