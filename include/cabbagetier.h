@@ -23,7 +23,7 @@
  * many or more, its first 16,384 words are 0 at return, refused or not, and the others are as they were; a shorter
  * slice is not touched. Nothing is kept between calls.
  *
- * Stack: the deepest use found is 44,064 bytes for rewrite and 41,336 for the other calls (tools/stack/stack; the tool's
+ * Stack: the deepest use found is 44,000 bytes for rewrite and 41,016 for the other calls (tools/stack/stack; the tool's
  * limit is 98,304). It is measured, not proved, and holds for this build on x86-64. By these
  * figures a thread of 128 KiB does for any call if the caller and the thread's own data need at most 32 KiB of it.
  *
