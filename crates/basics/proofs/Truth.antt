@@ -1,7 +1,9 @@
 -- Truth values. Assumes nothing.
 use mathlib.Core.Path.{◌≡◌, refl, sym, ◌∙◌}
-use mathlib.Core.Bool.{Bool, true, false, ◌&&◌, ◌||◌, true≢false, false≢true}
-use Prim.Native.Nat.{ℕ}
+use mathlib.Core.Bool.{Bool, true, false, cond, ◌&&◌, ◌||◌, true≢false, false≢true}
+use Prim.Native.Nat.{ℕ, ◌≤◌}
+use native.Mathlib.Omega.{arith}
+use mir.Val.{bool_byte}
 use lib.Dec.{eqb}
 use borrow.Author.Tests.{eq-eqb}
 
@@ -43,3 +45,12 @@ and_both false c e = absurd (false≢true e)
 pub and-true : (b c : Bool) → b ≡ true → c ≡ true → (b && c) ≡ true
 and-true true c p q = q
 and-true false c p q = absurd (false≢true p)
+
+-- as a number
+pub byte-is : (b : Bool) → bool_byte b ≡ cond b 1 0
+byte-is true = refl
+byte-is false = refl
+
+pub at_most_one : (b : Bool) → cond b 1 0 ≤ 1
+at_most_one true = omega arith
+at_most_one false = omega arith

@@ -15,7 +15,8 @@ use thiserror::Error;
 pub struct Case {
     pub lent: u32,
     pub expected: Figures,
-    // The ticket's length. Its bytes are in the caller's buffer, so that reading a case cannot run out of memory.
+    // The ticket's length. Its bytes are in the caller's buffer: a `Vec` of them could fail for want of memory, and with an `ArrayVec` of 16,384,
+    // as `line` has one of numbers, a `Case` would be no plain copy.
     pub bytes: usize,
 }
 

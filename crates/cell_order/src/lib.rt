@@ -9,28 +9,27 @@ ghost use Rattle.basics.specs.Lists.{slots};
 ghost use Rattle.netlist.specs.inner.Areas.{records_in};
 ghost use Rattle.order.specs.inner.Code.{Ready, Walks, visited_in};
 ghost use Rattle.cell_order.specs.inner.Code.{SortsCells, cells_by};
-ghost use Rattle.cell_order.specs.inner.Descent.{bits_in, starts_of, bit_reads, read_by, deps_from, Lowest, Lowers};
+ghost use Rattle.cell_order.specs.inner.Descent.{bits_in, starts_of, bit_reads, read_by, deps_from, LowestSlot, Lowers};
 ghost use Rattle.cell_order.specs.inner.Starts.{starts_that, not_output, Emits, PutsSources, Free, Appends};
 
 use netlist::area;
 use value::{Driver, Net, Slot};
 
-// The number of a slot's bit in its cell; 0 for what is no item. From the first word, as `word_record` has it: a record's bit is a u16, which each
-// caller would widen.
+// The number of a slot's bit in its cell; 0 for what is no item.
 pub fn bit_of(work: &[u32], n: u32, s: Slot) -> u32
     ensures { result ≡ get_or (bits_in (records_in n work.now)) s.0 0 }
 {
     if s.0 < n {
-        return basics::get_or(work, (s.0 as usize) * 4, 0) / 65536;
+        return netlist::record_in(work, s).bit.into();
     }
     0
 }
 
 // The slot where a slot's cell starts.
-pub fn start_of(work: &[u32], n: u32, s: Slot) -> u32
-    ensures { result ≡ start_of (bits_in (records_in n work.now)) s.0 }
+pub fn start_of(work: &[u32], n: u32, s: Slot) -> Slot
+    ensures { result.0 ≡ start_of (bits_in (records_in n work.now)) s.0 }
 {
-    s.0.saturating_sub(bit_of(work, n, s))
+    Slot(s.0.saturating_sub(bit_of(work, n, s)))
 }
 
 // A search for the lowest cell from a slot on, among the first n, that was not visited.
@@ -43,19 +42,19 @@ struct Search<'a> {
 
 impl<'a> Search<'a> {
     // The lower of `best` and y, if y is at least `from` and was not visited.
-    fn lower(&self, y: u32, best: u32) -> u32
-        ensures { Lowers self.now.n self.now.work.now self.now.from (y ∷ []) best result }
+    fn lower(&self, y: Slot, best: u32) -> u32
+        ensures { Lowers self.now.n self.now.work.now self.now.from (y.0 ∷ []) best result }
     {
-        if y < self.from {
+        if y.0 < self.from {
             return best;
         }
-        if best <= y {
+        if best <= y.0 {
             return best;
         }
-        if order::is_visited(self.work, self.n, Slot(y)) {
+        if order::is_visited(self.work, self.n, y) {
             return best;
         }
-        y
+        y.0
     }
 
     // So for the start of the cell that drives a net.
@@ -68,7 +67,7 @@ impl<'a> Search<'a> {
         }
     }
 
-    // So for all operands of a bit.
+    // So for all operands of a bit. Written out: a `for` would first list the three, and be longer.
     fn lower_bit(&self, s: Slot, best: u32) -> u32
         requires { s.0 < self.now.n }
         ensures { Lowers self.now.n self.now.work.now self.now.from (bit_reads (records_in self.now.n self.now.work.now) s.0) best result }
@@ -80,12 +79,12 @@ impl<'a> Search<'a> {
     }
 }
 
-// The lowest cell from a slot on that a cell reads and that was not visited, by its start; n if there is none. No Option: n is the lowest so far that
-// the search begins with.
-fn next_dep(work: &[u32], n: u32, s: Slot, from: u32) -> u32
+// The lowest cell from a slot on that a cell reads and that was not visited, by its start. The search begins with n as the lowest so far, and makes
+// the Option at its end.
+fn next_dep(work: &[u32], n: u32, s: Slot, from: u32) -> Option<Slot>
     requires s_lt_n { s.0 < n }
     requires n_bound { n ≤ 1024 }
-    ensures { Lowest n work.now from (read_by (records_in n work.now) s.0) result }
+    ensures { LowestSlot n work.now from (read_by (records_in n work.now) s.0) result }
 {
     let search = Search { work, n, from };
     let mut best = n;
@@ -95,7 +94,7 @@ fn next_dep(work: &[u32], n: u32, s: Slot, from: u32) -> u32
         best = search.lower_bit(Slot(i), best);
         i += 1;
         if bit_of(work, n, Slot(i)) == 0 {
-            return best;
+            return (best < n).then_some(Slot(best));
         }
     }
 }
@@ -132,12 +131,13 @@ fn walk_deps(work: &mut [u32], n: u32, s: Slot, from: u32, count: u32) -> u32
     requires s_lt_n { s.0 < n }
     ensures { Walks cells_by (deps_from (records_in n work.old) s.0 from) n count work.old work.new result }
 {
-    let x = next_dep(work, n, s, from);
-    if x < n {
-        let c = visit_cell(work, n, Slot(x), count);
-        return walk_deps(work, n, s, x + 1, c);
+    match next_dep(work, n, s, from) {
+        None => count,
+        Some(x) => {
+            let c = visit_cell(work, n, x, count);
+            walk_deps(work, n, s, x.0 + 1, c)
+        }
     }
-    count
 }
 
 // Whether a cell starts in a slot.

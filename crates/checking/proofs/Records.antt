@@ -1,22 +1,22 @@
 -- What the tests of one record and the loops over the records show. Assumes nothing.
 use mathlib.Core.Path.{◌≡◌, refl, sym, ap, ap₂, ◌∙◌}
 use mathlib.Core.Bool.{Bool, true, false}
-use mathlib.Core.List.{List, [], ◌∷◌, ◌++◌}
+use mathlib.Core.List.{List, [], ◌∷◌, ◌++◌, map}
 use Prim.Native.Nat.{ℕ, zero, suc, ◌+◌, ◌-◌, ◌/◌, ◌<◌, ◌≤◌}
 use native.Mathlib.Omega.{arith}
 use native.Mathlib.Numerals.{add-one}
 use lib.Dec.{eqb, leb}
-use lib.ListN.{length, get_or}
+use lib.ListN.{length}
 use borrow.Author.Tests.{lt-ltb, le-ltb, le-leb}
 use Rattle.std.specs.Prelude.{Ok, Err}
+use Rattle.std.specs.List.{range_with_len, sum}
+use Rattle.std.proofs.lemmas.List.FromFn.{sum_by-map-range_with_len_more}
 use Rattle.value.specs.declared.Slot.{Slot}
 use Rattle.value.specs.declared.Driver.{Driver}
 use Rattle.value.specs.declared.Driver.TheVariants as driven
-use Rattle.kinds.specs.declared.Field.{Field}
 use Rattle.kinds.specs.declared.Field.TheVariants as field
 use Rattle.cell.specs.declared.Record.{Record}
-use Rattle.kinds.specs.declared.Kind.{Kind}
-use Rattle.kinds.specs.Kinds.{kind_of, field_number}
+use Rattle.kinds.specs.Kinds.{kind_of}
 use Rattle.basics.specs.Lists.{tabulate}
 use Rattle.cell.specs.Records.{record_at, records_of, record_in}
 use Rattle.kinds.proofs.Laws.{gates-one}
@@ -36,14 +36,6 @@ module _ (t : List ℕ) (d : Driver) (s : Slot) (q : d ≡ driven.Cell s) where
   pub undriven-kind : s.0 < length t / 16 → (k : ℕ) → k ≡ (record_at t s.0).kind → (b : Bool) → b ≡ eqb k 2 → b ≡ undriven (records_of t) d
   undriven-kind h k f b g = rw (q, records-length t, lt-ltb s.0 (length t / 16) h, g, f, records-at t s.0 h)
 
--- the fields in the order in which they are tested; the first k do not fail 7
-abbrev pub fields : List Field
-fields = field.A ∷ field.B ∷ field.C ∷ []
-
-abbrev pub Driven : List Record → Record → ℕ → Type 0
-Driven rs r k =
-    (1 ≤ k → undriven_field rs r 1 ≡ false) × ((2 ≤ k → undriven_field rs r 2 ≡ false) × (3 ≤ k → undriven_field rs r 3 ≡ false))
-
 -- the groups of a record: the operands field by field, then 4, 5 and 6, behind which the operands are left
 module _ (t : List ℕ) (s : Slot) (h : s.0 < length t / 16) (r : Record) (q : r ≡ record_at t s.0) where
   abbrev rs : List Record
@@ -53,21 +45,25 @@ module _ (t : List ℕ) (s : Slot) (h : s.0 < length t / 16) (r : Record) (q : r
   here = records-at t s.0 h ∙ sym q
 
   -- the operands, field by field
-  tested : (f : ℕ) (b : Bool) → undriven_field rs r f ≡ b → undriven_field rs (record_in rs s.0) f ≡ b
-  tested f b e = ap (λ (q : Record). undriven_field rs q f) here ∙ e
+  tested : (f : ℕ) (x b : Bool) → x ≡ undriven_field rs r f → x ≡ b → undriven_field rs (record_in rs s.0) f ≡ b
+  tested f x b x-is e = ap (λ (q : Record). undriven_field rs q f) here ∙ sym x-is ∙ e
 
-  pub field-refuses : (k : ℕ) → k < 3 → Driven (records_of t) r k → (x : Bool) → x ≡ undriven_field (records_of t) r (field_number (get_or fields k field.A)) → x ≡ true
-      → Err (UndrivenOperand s (get_or fields k field.A)) ≡ first_of (operand_stages (records_of t) s.0)
-  field-refuses zero l d x x-is e = sym (first_field rs s.0 (tested 1 true (sym x-is ∙ e)))
-  field-refuses (suc zero) l d x x-is e = sym (second-field rs s.0 (tested 1 false (d.0 (omega arith))) (tested 2 true (sym x-is ∙ e)))
-  field-refuses (suc (suc zero)) l d x x-is e =
-      sym (third-field rs s.0 (tested 1 false (d.0 (omega arith))) (tested 2 false (d.1.0 (omega arith))) (tested 3 true (sym x-is ∙ e)))
-  field-refuses (suc (suc (suc k))) l d x x-is e = absurd (omega arith)
+  module _ (x : Bool) (x-is : x ≡ undriven_field (records_of t) r 1) where
+    pub refuses-a : x ≡ true → Err (UndrivenOperand s field.A) ≡ first_of (operand_stages (records_of t) s.0)
+    refuses-a e = sym (first_field rs s.0 (tested 1 x true x-is e))
 
-  pub all-driven : (k : ℕ) → 3 ≤ k → Driven (records_of t) r k → Ok tt ≡ first_of (operand_stages (records_of t) s.0)
-  all-driven k l d =
-      sym ((operand-exactly rs s.0).1
-      (fields-driven rs (record_in rs s.0) (tested 1 false (d.0 (omega arith))) (tested 2 false (d.1.0 (omega arith))) (tested 3 false (d.1.1 (omega arith)))))
+    module _ (x-no : x ≡ false) (y : Bool) (y-is : y ≡ undriven_field (records_of t) r 2) where
+      pub refuses-b : y ≡ true → Err (UndrivenOperand s field.B) ≡ first_of (operand_stages (records_of t) s.0)
+      refuses-b e = sym (second-field rs s.0 (tested 1 x false x-is x-no) (tested 2 y true y-is e))
+
+      module _ (y-no : y ≡ false) (z : Bool) (z-is : z ≡ undriven_field (records_of t) r 3) where
+        pub refuses-c : z ≡ true → Err (UndrivenOperand s field.C) ≡ first_of (operand_stages (records_of t) s.0)
+        refuses-c e = sym (third-field rs s.0 (tested 1 x false x-is x-no) (tested 2 y false y-is y-no) (tested 3 z true z-is e))
+
+        pub all-driven : z ≡ false → Ok tt ≡ first_of (operand_stages (records_of t) s.0)
+        all-driven e =
+            sym ((operand-exactly rs s.0).1
+            (fields-driven rs (record_in rs s.0) (tested 1 x false x-is x-no) (tested 2 y false y-is y-no) (tested 3 z false z-is e)))
 
   module _ (x : Bool) (x-is : x ≡ unknown_kind r) where
     pub refuses-4 : x ≡ true → Err (UnknownKind s) ≡ first_of (record_stages (records_of t) s.0)
@@ -118,33 +114,34 @@ unfolding gate_count
 count-more [] r = omega arith
 count-more (q ∷ rs) r = ap (λ (k : ℕ). (kind_of q.kind).gates + k) (count-more rs r) ∙ omega arith
 
--- the sum over the first s records is their gate count, at most one gate for each
-abbrev pub Counted : List ℕ → ℕ → ℕ → Type 0
-Counted t s sum = (sum ≤ s) × (sum ≡ gate_count (tabulate (record_at t) s))
+-- what the record of a slot adds, and the sum over the first n slots: their gate count, at most one gate for each
+module _ (t : List ℕ) where
+  abbrev pub gates_at : ℕ → ℕ
+  gates_at s = (kind_of (record_at t s).kind).gates
 
-pub counts-none : (t : List ℕ) → Counted t 0 0
-unfolding tabulate gate_count
-counts-none t = (omega arith, refl)
+  pub gates-summed : (n : ℕ) → sum (map gates_at (range_with_len 0 n)) ≡ gate_count (tabulate (record_at t) n)
+  unfolding tabulate gate_count
+  gates-summed zero = refl
+  gates-summed (suc n) =
+      ap (λ (k : ℕ). sum (map gates_at (range_with_len 0 k))) (sym (add-one n))
+      ∙ sum_by-map-range_with_len_more (λ (x : ℕ). x) gates_at 0 n n (omega arith)
+      ∙ ap (λ (k : ℕ). k + gates_at n) (gates-summed n)
+      ∙ sym (count-more (tabulate (record_at t) n) (record_at t n))
 
-module _ (t : List ℕ) (s sum : ℕ) (g : Counted t s sum) where
-  pub counts_all : s ≡ length t / 16 → sum ≡ gate_count (records_of t)
+  pub gates-few : (n : ℕ) → gate_count (tabulate (record_at t) n) ≤ n
+  unfolding tabulate gate_count
+  gates-few zero = omega arith
+  gates-few (suc n) = omega (arith, gates-few n, gates-one (record_at t n).kind, count-more (tabulate (record_at t) n) (record_at t n))
+
+  pub counts_all : (n : ℕ) → n ≡ length t / 16 → sum (map gates_at (range_with_len 0 n)) ≡ gate_count (records_of t)
   unfolding records_of
-  counts_all e = g.1 ∙ ap (λ (k : ℕ). gate_count (tabulate (record_at t) k)) e
-
-  pub counts-more : (k : ℕ) (y : Kind) → k ≡ (record_at t s).kind → y ≡ kind_of k → Counted t (s + 1) (sum + y.gates)
-  unfolding tabulate
-  counts-more k y e f = (
-    omega (arith, g.0, gates-one k, ap (λ (x : Kind). x.gates) f),
-    rw (add-one s, count-more) (ap₂ ◌+◌ g.1 (ap (λ (x : Kind). x.gates) (f ∙ ap kind_of e))),
-  )
+  counts_all n e = gates-summed n ∙ ap (λ (k : ℕ). gate_count (tabulate (record_at t) k)) e
 
 -- what the functions of the code cite
 pub ruleset undriven_steps = (undriven-past, undriven-kind)
 
-pub ruleset operand_steps = (all-driven)
+pub ruleset operand_steps = (refuses-a, refuses-b, refuses-c, all-driven)
 
 pub ruleset record_steps = (refuses-4, refuses-5, refuses-6, operands-left)
 
 pub ruleset records_steps = (slots-none, decided, passed, all-passed)
-
-pub ruleset count_steps = (counts-none, counts-more, counts_all, gates-one)

@@ -74,7 +74,7 @@ fn undriven_field(t: &[u8], r: Record, f: Field) -> bool
     r.is_operand(f) && undriven(t, Net(r.field(f)).as_cell_index())
 }
 
-// The record before a slot; for slot 0, its own.
+// The record before a slot; for slot 0, its own, and no Option: the definition tells slot 0 by its number.
 fn record_before(t: &[u8], s: Slot) -> Record
     requires { s.0 < length t.now / 16 }
     ensures { result ≡ record_at t.now (s.0 - 1) }
@@ -82,17 +82,22 @@ fn record_before(t: &[u8], s: Slot) -> Record
     cell::record_at(t, Slot(s.0.saturating_sub(1)))
 }
 
-// 7 of one record: the first of its fields that fails.
+// 7 of one record: the first of its fields that fails. No `for` over the fields: checking took 5 of 100 longer on tickets of inputs and on drawn
+// ones. A function of one field, asked three times by `?`, with its contract would be longer than what it spares.
 #[tactic(auto, using(crate::proofs::Records::operand_steps))]
 fn operand_verdict(t: &[u8], s: Slot, r: Record) -> Result<(), Refusal>
     requires s_in_bounds { s.0 < length t.now / 16 }
     requires r_value { r ≡ record_at t.now s.0 }
     ensures { result ≡ first_of (operand_stages (records_of t.now) s.0) }
 {
-    for f in [Field::A, Field::B, Field::C] {
-        if undriven_field(t, r, f) {
-            return Err(Refusal::UndrivenOperand(s, f));
-        }
+    if undriven_field(t, r, Field::A) {
+        return Err(Refusal::UndrivenOperand(s, Field::A));
+    }
+    if undriven_field(t, r, Field::B) {
+        return Err(Refusal::UndrivenOperand(s, Field::B));
+    }
+    if undriven_field(t, r, Field::C) {
+        return Err(Refusal::UndrivenOperand(s, Field::C));
     }
     Ok(())
 }
@@ -161,15 +166,12 @@ pub fn verdict_of(work: &mut [u32], t: &[u8]) -> Result<(), Refusal>
     netlist_verdict(work, t)
 }
 
-// The gate count of a ticket. No chain with `sum`: checking took 5 of 100 longer on a ticket of inputs.
-#[tactic(auto, using(crate::proofs::Records::count_steps))]
+// The gate count of a ticket.
 pub fn gate_count(t: &[u8]) -> u32
     requires { length t.now / 16 ≤ 512 }
     ensures { result ≡ gate_count (records_of t.now) }
 {
-    let mut sum = 0;
-    for s in 0..cell::records(t) as u32 {
-        sum += kinds::kind_of(cell::kind_at(t, Slot(s))).gates;
-    }
-    sum
+    (0..cell::records(t) as u32)
+        .map(|s| kinds::kind_of(cell::kind_at(t, Slot(s))).gates)
+        .sum()
 }

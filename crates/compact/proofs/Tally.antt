@@ -8,6 +8,7 @@ use native.Mathlib.Decide.{dec_lt}
 use lib.Dec.{eqb}
 use lib.ListN.{length, get_or, length-append, get_or-eq_default}
 use Rattle.basics.specs.Lists.{tabulate, slots, those}
+use Rattle.basics.proofs.Truth.{at_most_one}
 use Rattle.basics.proofs.Tables.{tabulate-at}
 use Rattle.basics.proofs.Those.{those-append}
 use Rattle.netlist.specs.inner.Areas.{records_in, marks_in, visited_at, order_at}
@@ -72,10 +73,6 @@ module _ (bits : List ℕ) (marks : List Bool) where
   unfolding tally
   tally-is-count zero = sym count_none
   tally-is-count (suc s) = ap (λ (k : ℕ). k + cond (is_kept bits marks s) 1 0) (tally-is-count s) ∙ sym (count-more s)
-
-pub at_most_one : (b : Bool) → cond b 1 0 ≤ 1
-at_most_one true = omega arith
-at_most_one false = omega arith
 
 -- the same of the words
 module _ (n : ℕ) (ws : List ℕ) where

@@ -16,7 +16,7 @@ use Rattle.netlist.specs.Netlist.{netlist_of}
 use Rattle.netlist.proofs.Frames.{within_none, within-then, within_wider, within-set, records-kept, marks-kept}
 use Rattle.compact.specs.Compact.{keep, is_kept}
 use Rattle.compact.specs.inner.Words.{kept_at, tally, tally_in, tally_word, Marked, Tallies, Keeps}
-use Rattle.compact.proofs.Tally.{at_most_one}
+use Rattle.basics.proofs.Truth.{at_most_one}
 
 -- tallies change neither records nor marks
 module _ (n : ℕ) (few : n ≤ 1024) (ws ws' : List ℕ) (frame : Within order_at replaced_at ws ws') where

@@ -53,8 +53,7 @@ fn is_marked(work: &[u32], n: u32, s: Slot) -> bool
     requires { s.0 < n }
     ensures { result ≡ kept_at n work.now s.0 }
 {
-    let start = cell_order::start_of(work, n, s);
-    area::VISITED.get(work, Slot(start)) != 0
+    area::VISITED.get(work, cell_order::start_of(work, n, s)) != 0
 }
 
 // Goes over the slots once and keeps the tally of those that are kept. A slot's word is twice the tally before it, and one more if it is kept

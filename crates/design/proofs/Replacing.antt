@@ -1,10 +1,9 @@
 -- Replaced nets, followed and put in place. Assumes nothing.
-use mathlib.Core.Path.{◌≡◌, refl, sym, ap, ◌∙◌, subst}
+use mathlib.Core.Path.{◌≡◌, refl, sym, ap, ◌∙◌}
 use mathlib.Core.Bool.{Bool, true, false, cond, not, ◌&&◌}
 use mathlib.Core.List.{List}
 use Prim.Native.Nat.{ℕ, suc, ◌+◌, ◌-◌, ◌<◌, ◌≤◌}
 use native.Mathlib.Omega.{arith}
-use native.Mathlib.Decide.{dec_lt}
 use lib.Dec.{eqb}
 use lib.ListN.{length, get_or, set}
 use lib.Seq.{get_or-set_same, get_or-set_other}
@@ -22,11 +21,11 @@ use Rattle.basics.specs.Lists.{tabulate, any_of}
 use Rattle.cell.specs.Records.{cell_record}
 use Rattle.netlist.specs.inner.Areas.{Within, words_in, figures_at, replaced_at}
 use Rattle.netlist.specs.Shape.{visit, visit_mut}
-use Rattle.netlist.proofs.Frames.{within-then, within-set, word-as, tabulate-same}
+use Rattle.netlist.proofs.Frames.{within-set, word-as, tabulate-same}
 use Rattle.design.specs.Queue.{net_in, driven_to, followed, map_net_new, eq_record, eq_cell}
 use Rattle.design.specs.inner.Words.{replaced_in}
 use Rattle.order.proofs.Words.{tabulate-set}
-use Rattle.design.proofs.Words.{replaced-at, replaced-length, replaced-past}
+use Rattle.design.proofs.Words.{replaced-length}
 
 -- one step
 module _ (n : ℕ) (ws : List ℕ) (x : Net) (d : Driver) (d-is : d ≡ driver x) where

@@ -32,7 +32,7 @@ use Rattle.order_laws.proofs.Operands.{comb-all, drives-in}
 use Rattle.order_laws.proofs.Queue.{mapped-keeps, replacement, seek_finds}
 use Rattle.levels_laws.specs.Algebra.{Algebra, Commutative, net_value, control_value, cell_value, Fits}
 use Rattle.levels_laws.proofs.Operands.{value-slot, cell_same, cell-visit_mut, cell-own}
-use Rattle.kept.proofs.Sound.{Sound, Bit, output-bits, inner, same_by, sound-wired}
+use Rattle.kept.proofs.Sound.{Sound, Bit, output-bits, same_by, sound-wired}
 
 -- a key has the value of its cell
 module _ {A : Type 0} (alg : Algebra A) (comm : Commutative alg) (u : Net → A) (own : A) where

@@ -11,6 +11,7 @@ use lib.Dec.{eqb}
 use mir.Val.{bool_byte}
 use lib.ListN.{length, get_or, set, drop}
 use lib.Seq.{get_or-set_same, get_or-set_other, get_or-drop, ext_get_or}
+use Rattle.basics.proofs.Truth.{byte-is, at_most_one}
 use Rattle.logic.specs.declared.Trit.{Trit}
 use Rattle.logic.specs.declared.Trit.TheVariants.{Undef}
 use Rattle.logic.specs.Levels.{byte_of, level_of}
@@ -18,7 +19,8 @@ use Rattle.logic.proofs.Bytes.{level-byte}
 use Rattle.cell.specs.declared.Record.{Record}
 use Rattle.cell.specs.declared.Cell.{Cell}
 use Rattle.cell.specs.Records.{cell_of}
-use Rattle.netlist.specs.Shape.{is_input}
+use Rattle.kinds.proofs.Tests.{is-source-is}
+use Rattle.netlist.specs.Shape.{is_input, is_source}
 use Rattle.netlist.specs.Netlist.{cell_in}
 use Rattle.netlist.specs.inner.Areas.{word_record, words_in, Within, figures_at, mixes_at, order_at, replaced_at, visited_at}
 use Rattle.netlist.proofs.Frames.{within_none, within-then, within_wider, record-kept, records-kept, words-kept}
@@ -26,18 +28,21 @@ use Rattle.order.specs.Orders.{topo_sort}
 use Rattle.order.specs.inner.Code.{Sorts}
 use Rattle.levels.specs.Evaluate.{given_levels}
 use Rattle.levels.specs.Fold.{cells_in, levels_at, input_at, placed_level, fold_in, slot_level, bit_levels}
-use Rattle.netlist.proofs.Cells.{cells-length, cell_at, input-kind}
-use Rattle.levels.proofs.Slots.{of-kind, of-another}
+use Rattle.netlist.proofs.Cells.{cells-length, cell_at, input-kind, source-kind}
 use Rattle.levels.proofs.Levels.{levels-length, level-read, put-within}
 
--- one slot, by its kind
-module _ (ws : List ℕ) (s : ℕ) (r : Record) (r-is : r ≡ word_record ws s) (bs : List ℕ) (k : ℕ) (ws' : List ℕ) where
-  pub taken-level : r.kind ≡ 1 → (t : Trit) → t ≡ level_of (get_or bs k 2) → ws' ≡ set ws (figures_at + s) (byte_of t)
-      → ws' ≡ set ws (figures_at + s) (byte_of (placed_level ws s bs k))
-  taken-level e t f g = rw (of-kind ws s r r-is 1 e) (g ∙ ap (λ (x : Trit). set ws (figures_at + s) (byte_of x)) f)
+-- whether a slot holds an input, by its cell
+pub source-at : (ws : List ℕ) (s : ℕ) → is_source (cell_of (word_record ws s)) ≡ input_at ws s
+source-at ws s = source-kind (word_record ws s) ∙ is-source-is (word_record ws s).kind
 
-  pub passed-level : (r.kind ≡ 1 → ⊥) → ws' ≡ set ws (figures_at + s) (byte_of Undef) → ws' ≡ set ws (figures_at + s) (byte_of (placed_level ws s bs k))
-  passed-level e g = rw (of-another ws s r r-is 1 e) g
+-- one slot, by what it holds
+module _ (ws : List ℕ) (s : ℕ) (bs : List ℕ) (k : ℕ) (ws' : List ℕ) where
+  pub taken-level : input_at ws s ≡ true → (t : Trit) → t ≡ level_of (get_or bs k 2) → ws' ≡ set ws (figures_at + s) (byte_of t)
+      → ws' ≡ set ws (figures_at + s) (byte_of (placed_level ws s bs k))
+  taken-level e t f g = rw e (g ∙ ap (λ (x : Trit). set ws (figures_at + s) (byte_of x)) f)
+
+  pub passed-level : input_at ws s ≡ false → ws' ≡ set ws (figures_at + s) (byte_of Undef) → ws' ≡ set ws (figures_at + s) (byte_of (placed_level ws s bs k))
+  passed-level e g = rw e g
 
 -- how many inputs stand before a slot
 unfoldable pub inputs_before : List Cell → ℕ → ℕ
@@ -69,15 +74,6 @@ unfolding given_levels
 given-length [] bs = refl
 given-length (c ∷ cs) bs = ap suc (given-length cs (cond (is_input c) (drop 1 bs) bs))
 
--- whether a byte is taken, as a number
-byte-is : (b : Bool) → bool_byte b ≡ cond b 1 0
-byte-is true = refl
-byte-is false = refl
-
-one-at-most : (b : Bool) → cond b 1 0 ≤ 1
-one-at-most true = omega arith
-one-at-most false = omega arith
-
 -- the loop that places the stimulus
 pub record Placing (n : ℕ) (bs ws₀ ws : List ℕ) (s k : ℕ) : Type 0 where
   pub long : 16384 ≤ length ws₀
@@ -106,7 +102,7 @@ module _ (n : ℕ) (bs ws₀ ws : List ℕ) (s k : ℕ) (g : Placing n bs ws₀ 
     pub placing-more : (ws' : List ℕ) → ws' ≡ set ws (figures_at + s) (byte_of (placed_level ws s bs k)) → (b : Bool) → b ≡ input_at ws s → (j : ℕ) → j ≡ bool_byte b
         → Placing n bs ws₀ ws' (s + 1) (k + j)
     placing-more ws' h b y j q =
-        let one : j ≤ 1 = omega (arith, q, byte-is b, one-at-most b) in
+        let one : j ≤ 1 = omega (arith, q, byte-is b, at_most_one b) in
         let t : Trit = placed_level ws s bs k in
         let z : k ≤ s = g.small in
         let long : 16384 ≤ length ws = let m : 16384 ≤ length ws₀ = g.long in omega (arith, g.frame.same) in

@@ -1,10 +1,9 @@
 -- Slots of a kind, and how many there are. Assumes nothing.
-use mathlib.Core.Path.{◌≡◌, refl, sym, ap, ap₂, ◌∙◌}
-use mathlib.Core.Bool.{Bool, true, false, cond}
+use mathlib.Core.Path.{◌≡◌, refl, sym, ap, ◌∙◌}
+use mathlib.Core.Bool.{Bool, cond}
 use mathlib.Core.List.{List, [], ◌∷◌}
-use Prim.Native.Nat.{ℕ, ◌+◌, ◌<◌, ◌≤◌}
+use Prim.Native.Nat.{ℕ, ◌+◌, ◌<◌}
 use native.Mathlib.Omega.{arith}
-use borrow.Author.Tests.{eq-eqb, ne_eqb}
 use lib.Dec.{eqb}
 use lib.ListN.{length}
 use lib.Seq.{ext_get_or}
@@ -12,7 +11,7 @@ use Rattle.std.specs.List.{filter, range_with_len}
 use Rattle.std.proofs.lemmas.List.FromFn.{length-range_with_len, get_or-range_with_len}
 use Rattle.cell.specs.declared.Record.{Record}
 use Rattle.cell.specs.Records.{record_of}
-use Rattle.basics.specs.Lists.{tabulate, slots, those}
+use Rattle.basics.specs.Lists.{slots, those}
 use Rattle.basics.proofs.Tables.{tabulate-length, tabulate-at}
 use Rattle.basics.proofs.Those.{slots_same}
 use Rattle.netlist.specs.Shape.{is_input, is_output}
@@ -20,22 +19,6 @@ use Rattle.netlist.specs.inner.Areas.{word_record, records_in}
 use Rattle.netlist.proofs.Cells.{cells-length, cell_at, input-kind, output-kind}
 use Rattle.levels.specs.Evaluate.{input_slots, output_slots}
 use Rattle.levels.specs.Fold.{cells_in, of_kind}
-
--- a slot whose record is of a kind, or of another
-module _ (ws : List ℕ) (s : ℕ) (r : Record) (r-is : r ≡ word_record ws s) (kind : ℕ) where
-  module _ (e : r.kind ≡ kind) where
-    pub of-kind : eqb (word_record ws s).kind kind ≡ true
-    of-kind = eq-eqb (word_record ws s).kind kind (ap (λ (x : Record). x.kind) (sym r-is) ∙ e)
-
-    pub one_more : ◌≡◌ {A = ℕ} 1 (cond (eqb (word_record ws s).kind kind) 1 0)
-    one_more = rw of-kind
-
-  module _ (e : r.kind ≡ kind → ⊥) where
-    pub of-another : eqb (word_record ws s).kind kind ≡ false
-    of-another = ne_eqb (word_record ws s).kind kind (λ q. e (ap (λ (x : Record). x.kind) r-is ∙ q))
-
-    pub none_more : ◌≡◌ {A = ℕ} 0 (cond (eqb (word_record ws s).kind kind) 1 0)
-    none_more = rw of-another
 
 -- the slots of a kind, inputs and outputs among the records in the work slice
 module _ (n : ℕ) (ws : List ℕ) where

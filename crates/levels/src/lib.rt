@@ -124,8 +124,7 @@ fn place_at(work: &mut [u32], s: Slot, stimulus: &[u8], k: u32) -> bool
     ensures value { result ≡ input_at work.old s.0 }
     ensures work_after { work.new ≡ set work.old (figures_at + s.0) (byte_of (placed_level work.old s.0 stimulus.now k)) }
 {
-    let kind = netlist::record_in(work, s).kind;
-    if kinds::is_source(kind) {
+    if netlist::is_source(work, s) {
         put_level(work, s, stimulus_level(stimulus, k));
         return true;
     }

@@ -1,10 +1,11 @@
 -- The call `levels`: the stimulus, the levels written, and the stages in turn. Assumes nothing.
-use mathlib.Core.Path.{◌≡◌, refl, sym, ap, ap₂, ◌∙◌, subst}
+use mathlib.Core.Path.{◌≡◌, refl, sym, ap, ap₂, ◌∙◌}
 use mathlib.Core.List.{List, [], ◌∷◌, ◌++◌, map, append_assoc}
 use Prim.Native.Nat.{ℕ, ◌<◌, ◌≤◌}
 use native.Mathlib.Omega.{arith}
 use lib.ListN.{length, get_or, length-map}
 use Rattle.std.specs.Prelude.{Ok, Err, Result}
+use Rattle.std.specs.Result.{IsErrAnd}
 use Rattle.logic.specs.declared.Trit.{Trit}
 use Rattle.logic.specs.declared.Trit.TheVariants.{Undef}
 use Rattle.logic.specs.Levels.{byte_of}
@@ -26,10 +27,9 @@ use Rattle.refusals.specs.declared.Refusal.{Refusal}
 use Rattle.refusals.specs.declared.Refusal.TheVariants.{ShortReply}
 use Rattle.refusals.specs.Refusals.{first_of}
 use Rattle.checking.specs.Checking.{netlist_stages, check_stages}
-use Rattle.calls.specs.Answers.{answer_by}
 use Rattle.calls.specs.Calls.{put, room, decoded, level_bytes, stimulus_stages, level_verdict}
 use Rattle.delivery.specs.inner.Delivery.{Loaded, Delivers}
-use Rattle.delivery.proofs.Deciding.{refused-decides, passed-decides}
+use Rattle.delivery.proofs.Deciding.{refused-writes, passed-writes}
 use Rattle.delivery.proofs.Delivering.{delivers-none, delivers-all}
 use Rattle.levels_call.specs.inner.Levels.{written_levels, bit_bytes, level_stages, Levels}
 
@@ -88,11 +88,10 @@ module _ (t : List ℕ) (n : ℕ) (ws : List ℕ) (p : Loaded n ws) (loaded : re
   same-verdict : first_of (stimulus_stages (cells_in n ws) stimulus) ≡ first_of (stimulus_stages cells stimulus)
   same-verdict = ap (λ (cs : List Cell). first_of (stimulus_stages cs stimulus)) same-cells
 
-  pub stimulus-refused : (x : Refusal) → Err x ≡ first_of (stimulus_stages (cells_in n ws) stimulus) → Levels t stimulus ws ws reply reply (Err x)
+  pub stimulus-refused : (x : Refusal) → Err x ≡ first_of (stimulus_stages (cells_in n ws) stimulus) → (r : Result ℕ Refusal) → IsErrAnd r (λ y. y ≡ x)
+      → Levels t stimulus ws ws reply reply r
   unfolding level_stages
-  stimulus-refused x e =
-      refused-decides (λ y. answer_by y (length result)) (stimulus_stages cells stimulus) (room reply result ∷ []) result ws ws reply (Err x) (e ∙ same-verdict) refl
-      x (Err x) refl refl
+  stimulus-refused x e r q = refused-writes (stimulus_stages cells stimulus) result ws ws reply refl x (e ∙ same-verdict) r q
 
   pub stimulus-passed : Ok tt ≡ first_of (stimulus_stages (cells_in n ws) stimulus) → (ws' reply' : List ℕ) (r : Result ℕ Refusal)
       → Delivers (bit_bytes n ws stimulus) ws ws' reply reply' r → Levels t stimulus ws ws' reply reply' r
@@ -100,8 +99,7 @@ module _ (t : List ℕ) (n : ℕ) (ws : List ℕ) (p : Loaded n ws) (loaded : re
   stimulus-passed e ws' reply' r d =
       let same : bit_bytes n ws stimulus ≡ result =
       ap (map byte_of) (ap (λ (cs : List Cell). bit_outputs cs stimulus) same-cells ∙ bit-outputs cells (rank (records_of t)) ranked stimulus) in
-      passed-decides (λ y. answer_by y (length result)) (stimulus_stages cells stimulus) (room reply result ∷ []) result ws ws reply (Ok tt) (e ∙ same-verdict) refl
-      ws' reply' r (subst (λ (b : List ℕ). Delivers b ws ws' reply reply' r) same d) refl
+      passed-writes (stimulus_stages cells stimulus) result ws ws reply refl (e ∙ same-verdict) (bit_bytes n ws stimulus) ws' reply' r same d
 
 -- the stages of the call: 1 to 8 first
 pub in_turn : (words : ℕ) (t stimulus reply : List ℕ) → first_of (check_stages words t ++ level_stages t stimulus reply) ≡ level_verdict words t stimulus reply

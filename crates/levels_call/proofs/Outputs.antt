@@ -5,28 +5,20 @@ use mathlib.Core.List.{List, [], ◌∷◌, ◌++◌, map, append-nil}
 use Prim.Native.Nat.{ℕ, suc, ◌+◌, ◌<◌, ◌≤◌}
 use native.Mathlib.Omega.{arith}
 use native.Mathlib.Numerals.{add-one}
+use mir.Val.{bool_byte}
 use lib.ListN.{length, get_or, set, drop, length-append, length-map, length-set}
 use lib.Seq.{drop-cons, set_at, append_snoc}
-use Rattle.logic.specs.declared.Trit.{Trit}
-use Rattle.logic.specs.declared.Trit.TheVariants.{Undef}
-use Rattle.logic.specs.Levels.{byte_of}
-use Rattle.cell.specs.declared.Record.{Record}
 use Rattle.basics.specs.Lists.{tabulate, slots, those}
+use Rattle.cell.specs.Records.{cell_of}
+use Rattle.netlist.specs.Shape.{is_output}
 use Rattle.netlist.specs.inner.Areas.{word_record, records_in}
-use Rattle.levels.specs.Fold.{of_kind, levels_at}
-use Rattle.levels.proofs.Slots.{of-kind, of-another, kind-slots}
+use Rattle.netlist.proofs.Cells.{output-kind}
+use Rattle.levels.specs.Fold.{of_kind}
+use Rattle.levels.proofs.Slots.{kind-slots}
+use Rattle.basics.proofs.Truth.{byte-is, at_most_one}
 use Rattle.basics.proofs.Those.{slots-more, count-more, count-grows}
 use Rattle.calls.specs.Calls.{put}
 use Rattle.levels_call.specs.inner.Levels.{output_at, byte_at, put_level, written_levels}
-
--- one slot, by its kind
-module _ (ws : List ℕ) (s : ℕ) (r : Record) (r-is : r ≡ word_record ws s) where
-  pub written-level : r.kind ≡ 2 → (n : ℕ) (t : Trit) → t ≡ get_or (levels_at n ws) s Undef → (b : ℕ) → b ≡ byte_of t → (k : ℕ) (reply reply' : List ℕ)
-      → reply' ≡ set reply k b → reply' ≡ put_level n ws s reply k
-  written-level e n t f b g k reply reply' h = rw (of-kind ws s r r-is 2 e) (h ∙ ap (set reply k) (g ∙ ap byte_of f))
-
-  pub no-level-written : (r.kind ≡ 2 → ⊥) → (reply new : List ℕ) → reply ≡ cond (output_at ws s) new reply
-  no-level-written e reply new = rw (of-another ws s r r-is 2 e)
 
 -- a result with one byte more
 put-more : (reply bytes : List ℕ) (b : ℕ) → length bytes < length reply → set (put reply bytes) (length bytes) b ≡ put reply (bytes ++ (b ∷ []))
@@ -40,6 +32,10 @@ put-more reply bytes b l =
 map_snoc : (f : ℕ → ℕ) (xs : List ℕ) (x : ℕ) → map f (xs ++ (x ∷ [])) ≡ map f xs ++ (f x ∷ [])
 map_snoc f [] x = refl
 map_snoc f (y ∷ xs) x = ap (λ (l : List ℕ). f y ∷ l) (map_snoc f xs x)
+
+-- whether a slot holds an output, by its cell
+pub output_is : (ws : List ℕ) (s : ℕ) → is_output (cell_of (word_record ws s)) ≡ output_at ws s
+output_is ws s = output-kind (word_record ws s)
 
 -- the bytes of the slots below s
 module _ (n : ℕ) (ws : List ℕ) where
@@ -101,14 +97,15 @@ module _ (n : ℕ) (ws reply₀ reply : List ℕ) (s k : ℕ) (g : Writing n ws 
     as_long true = length-set reply k (byte_at n ws s)
     as_long false = refl
 
-    pub writing_more : (j : ℕ) → j ≡ cond (output_at ws s) 1 0 → j ≤ 1 → Writing n ws reply₀ reply' (s + 1) (k + j)
-    writing_more j f one =
+    pub writing_more : (b : Bool) → b ≡ output_at ws s → (j : ℕ) → j ≡ bool_byte b → Writing n ws reply₀ reply' (s + 1) (k + j)
+    writing_more b y j q =
+        let one : j ≤ 1 = omega (arith, q, byte-is b, at_most_one b) in
         let z : k ≤ s = g.small in
         record {
           upto = omega arith;
           small = omega arith;
           room = g.room;
-          counted = ap₂ ◌+◌ g.counted f ∙ sym (count-more (output_at ws) s);
+          counted = ap₂ ◌+◌ g.counted (q ∙ byte-is b ∙ ap (λ (x : Bool). cond x 1 0) y) ∙ sym (count-more (output_at ws) s);
           written = level-added (output_at ws s) refl;
           same = ap length e ∙ as_long (output_at ws s) ∙ g.same;
         }

@@ -1,7 +1,7 @@
 // Levels of the outputs for a stimulus.
 #![tactic(auto)]
 
-ghost use Rattle.std.specs.Prelude.{◌≡◌, cond, ◌<◌, ◌≤◌, List, ℕ, length, slice_index, MatchOption};
+ghost use Rattle.std.specs.Prelude.{◌≡◌, ◌<◌, ◌≤◌, List, ℕ, length, slice_index, MatchOption};
 ghost use Rattle.std.specs.List.{AllWithin};
 ghost use Rattle.kinds.specs.declared.Sort.TheVariants as sort;
 ghost use Rattle.kinds.specs.Kinds.{number_of};
@@ -41,20 +41,18 @@ fn stimulus_verdict(work: &[u32], n: u32, stimulus: &[u8]) -> Result<(), Refusal
     }
 }
 
-// Writes the level of a slot that holds an output as byte k of the reply. The answer is the number of bytes written: with a bool the proof
-// of the loop did not close.
-fn write_at(work: &[u32], n: u32, s: Slot, reply: &mut [u8], k: u32) -> u32
-    ensures value { result ≡ cond (output_at work.now s.0) 1 0 }
-    ensures upper_bound { result ≤ 1 }
+// Writes the level of a slot that holds an output as byte k of the reply. The answer is whether the slot holds one.
+#[tactic(auto, using(crate::proofs::Outputs::output_is))]
+fn write_at(work: &[u32], n: u32, s: Slot, reply: &mut [u8], k: u32) -> bool
+    ensures value { result ≡ output_at work.now s.0 }
     ensures reply_after { reply.new ≡ put_level n work.now s.0 reply.old k }
 {
-    let kind = netlist::record_in(work, s).kind;
-    if kinds::is_output(kind) {
+    if netlist::is_output(work, s) {
         let t = levels::level_at(work, n, s);
         basics::put(reply, k as usize, u32::from(t) as u8);
-        return 1;
+        return true;
     }
-    0
+    false
 }
 
 // Writes the levels of the outputs, in slot order.
@@ -67,7 +65,7 @@ fn write_levels(work: &[u32], n: u32, reply: &mut [u8])
     // Two counts: how many bytes are written depends on what the slots hold. By index: the loop is over the slots, so an `iter_mut` of the reply
     // would be advanced by hand, and of what is written through it a proof knows the length alone.
     for s in 0..n {
-        k += write_at(work, n, Slot(s), reply, k);
+        k += u32::from(write_at(work, n, Slot(s), reply, k));
     }
 }
 

@@ -28,6 +28,13 @@ module _ (P : ℕ → Type 0) (ws : List ℕ) (s v u : ℕ) (l : s < length ws) 
       go true t = let e : u ≡ s = eqb-true u s t in subst P (sym (ap (λ (i : ℕ). get_or (set ws s v) i 0) e ∙ get_or-set_same ws s v 0 l)) (here e)
       go false t = let d : u ≡ s → ⊥ = eqb-false u s t in subst P (sym (get_or-set_other ws s u v 0 d)) (there d)
 
+-- the area of the marks begins at word 0
+pub zero-plus : (s : ℕ) → s ≡ 0 + s
+zero-plus s = omega arith
+
+pub from_zero : (ws' ws : List ℕ) (s v : ℕ) → ws' ≡ set ws (0 + s) v → ws' ≡ set ws s v
+from_zero ws' ws s v e = e ∙ ap (λ (i : ℕ). set ws i v) (sym (zero-plus s))
+
 mark-same : (ws : List ℕ) (s v : ℕ) → s < length ws → mark (set ws s v) s ≡ v
 mark-same ws s v l = get_or-set_same ws s v 0 l
 
@@ -97,14 +104,17 @@ module _ (rs : List Record) (stop : Option Slot) (clock : ℕ) (ws : List ℕ) (
     inside = f.inside;
   }
 
-  pub opens : (ws' : List ℕ) → ws' ≡ set ws s 1 → Ready rs stop clock ws' s 1
-  opens ws' e = subst (λ (vs : List ℕ). Ready rs stop clock vs s 1) (sym e) (record {
+  opens_at : (ws' : List ℕ) → ws' ≡ set ws s 1 → Ready rs stop clock ws' s 1
+  opens_at ws' e = subst (λ (vs : List ℕ). Ready rs stop clock vs s 1) (sym e) (record {
     fits = opens-fits;
     walking = opens-walking;
     below = g.below;
     within = g.within;
     marked = mark-same ws s 1 within-words;
   })
+
+  pub opens : (ws' : List ℕ) → ws' ≡ set ws (0 + s) 1 → Ready rs stop clock ws' s 1
+  opens ws' e = opens_at ws' (from_zero ws' ws s 1 e)
 
   pub opens-fewer : (ws' : List ℕ) → ws' ≡ set ws s 1 → unvisited (length rs) ws' < unvisited (length rs) ws
   opens-fewer ws' e =
@@ -116,7 +126,7 @@ module _ (rs : List Record) (stop : Option Slot) (clock c : ℕ) (ws ws₁ ws₂
     (n : length ws₂ ≡ length ws₁) (a : Leaves rs stop clock c ws₁ ws₂)
     (b : (f : ℕ) (x : Slot) → edge_at (record_in rs s) f ≡ Some x → Before stop ws₂ c x.0) where
   is_open : Ready rs stop clock ws₁ s 1
-  is_open = opens rs stop clock ws s g ws₁ o
+  is_open = opens_at rs stop clock ws s g ws₁ o
 
   still_open : mark ws₂ s ≡ 1
   still_open = a.kept s (λ z. absurd (omega (arith, is_open.marked))) ∙ is_open.marked

@@ -1,14 +1,12 @@
 -- What the search shows around the walk: cleared marks are where a walk begins, and what its end says of loops. Assumes nothing.
 use mathlib.Core.Path.{◌≡◌, refl, sym, ap, ◌∙◌, subst}
 use mathlib.Core.Bool.{Bool, true, false}
-use mathlib.Core.List.{List, ◌++◌}
+use mathlib.Core.List.{List}
 use mathlib.Core.Logic.{inl}
 use Prim.Native.Nat.{ℕ, ◌+◌, ◌<◌, ◌≤◌}
 use native.Mathlib.Omega.{arith}
 use lib.Dec.{eqb}
-use lib.ListN.{length, drop, take, replicate, length-replicate, get_or-replicate}
-use Rattle.std.proofs.lemmas.List.{length-take-le, get_or_append_left}
-use Rattle.std.proofs.lemmas.Slice.{drop-append-drop}
+use lib.ListN.{length, drop, get_or}
 use borrow.Author.Count.{below_more}
 use borrow.Author.Tests.{eq-eqb, eqb-true, eqb-false}
 use Rattle.std.specs.Prelude.{Some}
@@ -17,28 +15,25 @@ use Rattle.value.specs.Value.{slot_at}
 use Rattle.cell.specs.declared.Record.{Record}
 use Rattle.cell.specs.Operands.{edge_at}
 use Rattle.cell.specs.Records.{record_in}
+use Rattle.netlist.specs.inner.Areas as area
+use Rattle.netlist.proofs.Frames.{within-drop}
 use Rattle.std.proofs.Common.{Option, Some, None}
 use Rattle.loops.specs.Reach.{Reaches, edge, path, on_loop}
 use Rattle.loops.specs.inner.Search.{Searchable, Finds}
 use Rattle.loops.specs.inner.Walk.{mark, unvisited, stops_at, Stopped, Reached, Within, Before, Walking, Ready, Coming, Leaves, Visits, Meets, Cleared, Frees, Tells}
 use Rattle.loops.proofs.Counting.{counted-le}
+use Rattle.loops.proofs.Marks.{zero-plus}
 use Rattle.loops.proofs.Edges.{edge-below}
 use Rattle.loops.proofs.Reach.{on_loop-iff, on_loop-false}
 use Rattle.loops.proofs.Rank.{falls-no-loop}
 use Rattle.loops.proofs.Lowest.{IsLowest, lowest-on-loop}
 
 -- the marks of the first n slots are off
-pub cleared : (n : ℕ) (ws vs : List ℕ) → (n ≤ 512) × (16384 ≤ length ws) → vs ≡ replicate (length (take n ws)) 0 → Cleared n ws (vs ++ drop n ws)
-cleared n ws vs h z =
-    let r : vs ≡ replicate n 0 = z ∙ ap (λ (m : ℕ). replicate m 0) (length-take-le n ws (omega arith)) in
-    let l : length vs ≡ n = rw r (length-replicate n 0) in
-    record {
-      blank = λ u k. get_or_append_left vs (drop n ws) 0 u (omega arith) ∙ rw r (get_or-replicate n u 0 0 k);
-      rest = drop-append-drop n ws vs 16384 (omega arith) l;
-    }
-
--- what `clear` cites
-pub ruleset clearing = (cleared)
+pub cleared : (n : ℕ) (ws ws' : List ℕ) → (n ≤ 512) × (16384 ≤ length ws) → ((i : ℕ) → i < n → get_or ws' (0 + i) 0 ≡ 0) → area.Within 0 (0 + n) ws ws' → Cleared n ws ws'
+cleared n ws ws' h blank within = record {
+  blank = λ u k. ap (mark ws') (zero-plus u) ∙ blank u k;
+  rest = within-drop 0 (0 + n) 16384 ws ws' (omega arith) within;
+}
 
 searchable-own : (rs : List Record) (n : ℕ) (ws : List ℕ) → Searchable rs n ws → Searchable rs (length rs) ws
 searchable-own rs n ws g = subst (λ (k : ℕ). Searchable rs k ws) (sym g.count) g

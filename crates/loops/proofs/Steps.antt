@@ -21,7 +21,7 @@ use Rattle.loops.specs.Reach.{Reaches, edge}
 use Rattle.loops.specs.inner.Walk.{mark, unvisited, stops_at, Stopped, Reached, Within, Before, Walking, Ready, Coming, Leaves, Walked, Visits, Meets, Follows}
 use Rattle.loops.proofs.Edges.{edge-range}
 use Rattle.loops.proofs.Rank.{reaches-by}
-use Rattle.loops.proofs.Marks.{unvisited-kept, before-kept, opens-fewer, finishes, finished-last}
+use Rattle.loops.proofs.Marks.{zero-plus, from_zero, unvisited-kept, before-kept, opens-fewer, finishes, finished-last}
 
 -- nothing was changed
 module _ (rs : List Record) (stop : Option Slot) (clock : ℕ) (ws : List ℕ) (w : Walking rs stop clock ws) where
@@ -59,13 +59,13 @@ reached-stopped rs None x b h = tt
 reached-stopped rs (Some t) x b h = subst (λ (y : ℕ). Reaches rs t.0 y) (sym (eqb-true t.0 x b)) h
 
 module _ (rs : List Record) (stop : Option Slot) (clock : ℕ) (ws : List ℕ) (x : ℕ) (g : Coming rs stop clock ws x) where
-  pub meet-new : (m : ℕ) → m ≡ mark ws x → m ≡ 0 → Ready rs stop clock ws x 0
+  pub meet-new : (m : ℕ) → m ≡ mark ws (0 + x) → m ≡ 0 → Ready rs stop clock ws x 0
   meet-new m e z = record {
     fits = g.fits;
     walking = g.walking;
     below = g.below;
     within = reached-within rs stop x g.reached;
-    marked = sym e ∙ z;
+    marked = ap (mark ws) (zero-plus x) ∙ sym e ∙ z;
   }
 
   pub meet-open : (b : Bool) → b ≡ stops_at stop x → b ≡ true → Meets rs stop clock ws ws x 0
@@ -172,7 +172,10 @@ module _ (t : List ℕ) (stop : Option Slot) (clock : ℕ) (ws : List ℕ) (s f 
         same : (y : Slot) (h : ℕ) → f ≤ h → h ≤ f → edge_at (record_in (records_of t) s) h ≡ Some y → x ≡ y
         same y h l m i = let d : h ≡ f = omega arith in cc edge-is
 
-module _ (rs : List Record) (stop : Option Slot) (clock : ℕ) (ws ws₁ : List ℕ) (s : ℕ) (g : Ready rs stop clock ws s 0) (o : ws₁ ≡ set ws s 1) where
+module _ (rs : List Record) (stop : Option Slot) (clock : ℕ) (ws ws₁ : List ℕ) (s : ℕ) (g : Ready rs stop clock ws s 0) (p : ws₁ ≡ set ws (0 + s) 1) where
+  o : ws₁ ≡ set ws s 1
+  o = from_zero ws₁ ws s 1 p
+
   pub visit-falls : (t : ℕ) → 8 * unvisited (length rs) ws ≡ t → 8 * unvisited (length rs) ws₁ + 3 < t
   visit-falls t q = omega (arith, opens-fewer rs stop clock ws s g ws₁ o)
 
@@ -190,8 +193,8 @@ module _ (rs : List Record) (stop : Option Slot) (clock : ℕ) (ws ws₁ : List 
       all_edges : (f : ℕ) (x : Slot) → edge_at (record_in rs s) f ≡ Some x → Before stop ws₂ c x.0
       all_edges f x i = v.before d f x (edge-range (record_in rs s) f x i).0 (edge-range (record_in rs s) f x i).1 i
 
-      pub visit-done : (ws₃ : List ℕ) → length ws₂ ≡ length ws₁ → ws₃ ≡ set ws₂ s c → Visits rs stop clock ws ws₃ s (c + 1)
-      visit-done ws₃ l p = subst (λ (vs : List ℕ). Visits rs stop clock ws vs s (c + 1)) (sym p) (record {
+      pub visit-done : (ws₃ : List ℕ) → length ws₂ ≡ length ws₁ → ws₃ ≡ set ws₂ (0 + s) c → Visits rs stop clock ws ws₃ s (c + 1)
+      visit-done ws₃ l q = subst (λ (vs : List ℕ). Visits rs stop clock ws vs s (c + 1)) (sym (from_zero ws₃ ws₂ s c q)) (record {
         walked = record {
           looped = λ q. absurd (omega arith);
           done = λ k. finishes rs stop clock c ws ws₁ ws₂ s g o l (v.walked.done d) all_edges;

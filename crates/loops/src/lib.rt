@@ -10,6 +10,7 @@ ghost use Rattle.loops.specs.inner.Walk.{stops_at, Ready, Coming, Visits, Meets,
 
 use cell::Record;
 use kinds::Field;
+use netlist::area::MARKS;
 use value::Slot;
 
 // A walk over the slots of a ticket. An open slot ends it where it is met: each does, or one alone.
@@ -29,20 +30,20 @@ impl<'a> Walk<'a> {
     }
 
     // Opens a slot that was not visited, follows its edges and finishes it. This and the next three answer the next stamp, or 0
-    // where the walk met an open slot that ends it. A number: with an Option and `?` checking took 3 to 5 % longer on full tickets
-    // (ladder 7.1 to 7.5 µs, muxes 8.5 to 8.9, the late loop 1,659 to 1,730).
+    // where the walk met an open slot that ends it. A number: with an Option and `?` a library of this crate alone, timed on a busy
+    // machine and not by `tools/bench`, took 3 to 5 % longer on full tickets (ladder 7.1 to 7.5 µs, muxes 8.5 to 8.9, the late loop
+    // 1,659 to 1,730).
     #[cycle(descent)]
     fn visit(&self, work: &mut [u32], s: Slot, clock: u32) -> u32
         requires { Ready (records_of self.now.ticket.now) self.now.stop clock work.old s.0 0 }
         ensures { Visits (records_of self.now.ticket.now) self.now.stop clock work.old work.new s.0 result }
     {
-        let i = s.0 as usize;
-        basics::put(work, i, 1);
+        MARKS.put(work, s, 1);
         let next = self.visit_edges(work, s, clock);
         if next == 0 {
             return 0;
         }
-        basics::put(work, i, next);
+        MARKS.put(work, s, next);
         next + 1
     }
 
@@ -84,26 +85,20 @@ impl<'a> Walk<'a> {
         requires { Coming (records_of self.now.ticket.now) self.now.stop clock work.old x.0 }
         ensures { Meets (records_of self.now.ticket.now) self.now.stop clock work.old work.new x.0 result }
     {
-        let mark = basics::get_or(work, x.0 as usize, 0);
-        if mark == 0 {
-            return self.visit(work, x, clock);
+        match MARKS.get(work, x) {
+            0 => self.visit(work, x, clock),
+            1 if self.stops(x) => 0,
+            _ => clock,
         }
-        if mark == 1 {
-            if self.stops(x) {
-                return 0;
-            }
-        }
-        clock
     }
 }
 
 // Takes the marks off all slots.
-#[tactic(auto, using(crate::proofs::Search::clearing))]
 fn clear(work: &mut [u32], n: u32)
     requires { (n ≤ 512) × (16384 ≤ length work.old) }
     ensures { Cleared n work.old work.new }
 {
-    work[..n as usize].fill(0);
+    MARKS.clear(work, n);
 }
 
 // Whether a walk over all slots ends, since it meets no open slot. Then there is no loop.
@@ -150,7 +145,9 @@ fn first_on_loop(work: &mut [u32], ticket: &[u8], n: u32) -> Option<Slot>
 }
 
 // The lowest slot on a loop; n is the number of records, handed on beside the ticket: each function would else count them anew, with
-// their bound. One walk over all slots shows that there is none; only where it does not, each slot is asked for itself.
+// their bound. No struct of both with the fact `Searchable`: that is of the words too, and one that held the `&mut` would owe in every
+// clause that it still holds the same reference. One walk over all slots shows that there is none; only where it does not, each slot
+// is asked for itself.
 pub fn find_loop(work: &mut [u32], ticket: &[u8], n: u32) -> Option<Slot>
     requires { Searchable (records_of ticket.now) n work.old }
     ensures { Finds (records_of ticket.now) work.old work.new result }

@@ -50,7 +50,7 @@ fn put_key(work: &mut [u32], n: u32, s: Slot)
     netlist::put_record(work, Slot(area::KEYS + s.0), key);
 }
 
-// The slot behind the cell that starts at a slot.
+// The number behind the slots of the cell that starts at a slot: the end of a range, and no `Slot`, as it may be n.
 fn cell_end(work: &[u32], n: u32, s: Slot) -> u32
     requires { s.0 < n }
     ensures value { result ≡ s.0 + width_of (netlist_in n work.now).bits s.0 }

@@ -6,6 +6,8 @@ use Prim.Native.Nat.{ℕ}
 use native.Mathlib.Omega.{arith}
 use Rattle.refusals.specs.declared.Refusal.{Refusal}
 use Rattle.std.specs.Prelude.{Ok, Err, Result}
+use Rattle.std.specs.Result.{IsErrAnd}
+use Rattle.std.proofs.lemmas.Result.{err_from_is_err_and}
 use Rattle.cell.specs.declared.Record.{Record}
 use Rattle.cell.specs.Records.{records_of}
 use Rattle.netlist.specs.inner.Areas.{records_in, free_at}
@@ -15,6 +17,7 @@ use Rattle.compact.specs.Compact.{compact}
 use Rattle.design.specs.inner.Words.{netlist_in}
 use Rattle.merge.specs.Merge.{merging, merged_netlist, merge}
 use Rattle.merge.specs.inner.Words.{Sequenced, MergesNetlist}
+use Rattle.calls.specs.declared.Merged.{Merged}
 use Rattle.calls.specs.Answers.{merged_of}
 use Rattle.calls.specs.Calls.{encoded, merge_bytes}
 use Rattle.delivery.specs.inner.Delivery.{Delivers, Loaded}
@@ -40,10 +43,12 @@ module _ (t : List ℕ) (n : ℕ) (ws ws₁ : List ℕ) (changed : Bool) (m : Lo
   delivered w d =
       delivers-from (encoded (compact (netlist_in n ws₁))) (merge_bytes t) ws ws₁ ws₂ reply reply' w (ap (λ (e : Netlist). encoded (compact e)) m.result) m.rest d
 
-  pub merged-refused : (x : Refusal) → Delivers (encoded (compact (netlist_in n ws₁))) ws₁ ws₂ reply reply' (Err x) → Merges t ws ws₂ reply reply' (Err x)
-  merged-refused x d =
+  pub merged-refused : (x : Refusal) → Delivers (encoded (compact (netlist_in n ws₁))) ws₁ ws₂ reply reply' (Err x) → (r : Result Merged Refusal)
+      → IsErrAnd r (λ y. y ≡ x) → Merges t ws ws₂ reply reply' r
+  merged-refused x d r q =
+      let p = err_from_is_err_and r q in
       let e : Delivers (merge_bytes t) ws ws₂ reply reply' (Err x) = delivered (Err x) d in
-      record { said = rw (turned_away _ _ x (sym e.said)); left = e.left; rest = e.rest }
+      record { said = rw (p.1, p.2, turned_away _ _ x (sym e.said)); left = e.left; rest = e.rest }
 
   pub merged-delivers : (bytes : ℕ) → Delivers (encoded (compact (netlist_in n ws₁))) ws₁ ws₂ reply reply' (Ok bytes) → Merges t ws ws₂ reply reply' (Ok (merged_of bytes changed))
   merged-delivers bytes d =

@@ -4,10 +4,10 @@ use mathlib.Core.Path.{◌≡◌, refl, sym, ap, ◌∙◌}
 use mathlib.Core.Bool.{true, false}
 use mathlib.Core.Logic.{◌⊎◌, ⊎_elim}
 use mathlib.Core.List.{List, map}
-use Prim.Native.Nat.{ℕ, ◌*◌, ◌%◌, ◌<◌, ◌≤◌}
+use Prim.Native.Nat.{ℕ, ◌<◌, ◌≤◌}
 use native.Mathlib.Omega.{arith}
 use lib.Dec.{eqb}
-use lib.ListN.{length, get_or, length-map, get_or-map, get_or-eq_default}
+use lib.ListN.{length, length-map, get_or-map, get_or-eq_default}
 use Rattle.value.specs.declared.Net.{Net}
 use Rattle.kinds.specs.declared.Sort.TheVariants as sort
 use Rattle.kinds.specs.declared.Sort.{Sort}
@@ -81,11 +81,9 @@ pub source-kind : (r : Record) → is_source (cell_of r) ≡ is_source_sort (sor
 unfolding cell_of
 source-kind r = source-sort (sort_of r.kind) r
 
--- an output and a source by the first word of a record
-pub output-word : (ws : List ℕ) (s k : ℕ) → k ≡ get_or ws (s * 4) 0 % 256 → eqb k 2 ≡ is_output (cell_of (word_record ws s))
-unfolding word_record
-output-word ws s k e = ap (λ (y : ℕ). eqb y 2) e ∙ sym (output-kind (word_record ws s))
+-- an output and a source by the record of a slot
+pub output-slot : (ws : List ℕ) (s : ℕ) (r : Record) → r ≡ word_record ws s → eqb r.kind 2 ≡ is_output (cell_of (word_record ws s))
+output-slot ws s r e = ap (λ (y : Record). eqb y.kind 2) e ∙ sym (output-kind (word_record ws s))
 
-pub source-word : (ws : List ℕ) (s k : ℕ) → k ≡ get_or ws (s * 4) 0 % 256 → is_source_sort (sort_of k) ≡ is_source (cell_of (word_record ws s))
-unfolding word_record
-source-word ws s k e = ap (λ (y : ℕ). is_source_sort (sort_of y)) e ∙ sym (source-kind (word_record ws s))
+pub source-slot : (ws : List ℕ) (s : ℕ) (r : Record) → r ≡ word_record ws s → is_source_sort (sort_of r.kind) ≡ is_source (cell_of (word_record ws s))
+source-slot ws s r e = ap (λ (y : Record). is_source_sort (sort_of y.kind)) e ∙ sym (source-kind (word_record ws s))

@@ -1,9 +1,10 @@
 // Where the areas of the work slice begin (`specs/inner/Areas.antt`; docs/MAP.md draws them). The records stand from word 0 on, four words a slot.
 // The words and the number of slots stay two parameters, with their bounds as clauses: a struct that held the `&mut` would owe in every clause
-// that it still holds the same reference, and an array in place of the slice would turn away a longer one. Areas, and slots as numbers, stay in
-// place of vectors, maps and boxes: the library has no heap, and its memory is the one slice that the caller lends. So what an area holds so far
-// (`count`, `k`) is a number beside it. Where the words are only read and a few methods share them, words and number are a struct (`levels`,
-// `compact`, `cell_order`); public look-ups take the two, as their definitions do.
+// that it still holds the same reference. An array `&mut [u32; 16384]` is a narrower parameter: public functions would ask more of their callers, and
+// the calls, which take a slice, would each have to borrow its first 16,384 words as one. Areas, and slots as numbers, stay in place of vectors, maps
+// and boxes: the library has no heap, and its memory is the one slice that the caller lends. So what an area holds so far (`count`, `k`) is a number
+// beside it. Where the words are only read and a few methods share them, words and number are a struct (`levels`, `compact`, `cell_order`); public
+// look-ups take the two, as their definitions do.
 ghost use Rattle.std.specs.Prelude.{◌≡◌, ℕ, ◌+◌, ◌≤◌, ◌<◌, length, get_or, set};
 ghost use Rattle.netlist.specs.inner.Areas.{words_in, Within};
 
@@ -12,6 +13,9 @@ use value::Slot;
 // An area of a word a slot, by the index of its first word. `Slot(i)` also counts the keys and the places of the order: an area is by slots.
 #[derive(Clone, Copy)]
 pub struct Area(pub u32);
+
+// The marks of the search for loops, where the records stand after it: they are loaded when it has ended.
+pub const MARKS: Area = Area(0);
 
 pub const VISITED: Area = Area(4096);
 

@@ -44,24 +44,17 @@ pub fn cell_in(work: &[u32], s: Slot) -> Cell
     Cell::from(record_in(work, s))
 }
 
-// The kind of the record of a slot, from its first word alone: three more words would be read for nothing.
-fn kind_in(work: &[u32], s: Slot) -> u8
-    ensures { result ≡ get_or work.now (s.0 * 4) 0 % 256 }
-{
-    (basics::get_or(work, (s.0 as usize) * 4, 0) % 256) as u8
-}
-
 // Whether the cell of a slot is a source.
 pub fn is_source(work: &[u32], s: Slot) -> bool
     ensures { result ≡ is_source (cell_of (word_record work.now s.0)) }
 {
-    kinds::is_source(kind_in(work, s))
+    kinds::is_source(record_in(work, s).kind)
 }
 
 pub fn is_output(work: &[u32], s: Slot) -> bool
     ensures { result ≡ is_output (cell_of (word_record work.now s.0)) }
 {
-    kinds::is_output(kind_in(work, s))
+    kinds::is_output(record_in(work, s).kind)
 }
 
 // Writes a record into a slot.

@@ -8,8 +8,9 @@ ghost use Rattle.normalize.specs.Normalize.{normalize as normalize_of};
 use cell::Cell;
 use value::{ControlNet, Net};
 
-// What a rule that applies makes of a cell; a rule that doesn't gives `None`. A rule adds a cell in three ways; metadata apart, the others are
-// the Rust's own.
+// What a rule that applies makes of a cell; a rule that doesn't gives `None`. Metadata apart, `Value` and `Form` are the Rust's own. The
+// definition adds a cell in the three other ways (`aig/specs/Aig.antt`). Of these the code makes `NotOf` alone: the arms for and and or call the
+// adder themselves (`rewriter_cycle`).
 #[derive(Clone, Copy)]
 pub enum Change {
     // The net in the cell's place.

@@ -32,7 +32,8 @@ fn count_mix(work: &[u32], k: u32, x: u32) -> u32
 {
     let from = area::MIXES.0 as usize;
     let end = (k as usize).next_multiple_of(16);
-    // A `for` that adds a number for each: `filter` and `count` would be as long.
+    // A `for` that adds a number for each: by `filter` and `count`, which prove as well, merge and rewrite take up to twice as long
+    // (merge of a chain 70 to 130 µs, rewriting of gates of different pairs 67 to 133).
     let mut count: u32 = 0;
     for m in work[from..from + end].iter() {
         count += u32::from(*m == x);
@@ -40,7 +41,8 @@ fn count_mix(work: &[u32], k: u32, x: u32) -> u32
     count
 }
 
-// Whether an entry has a key, whose mix is x.
+// Whether an entry has a key, whose mix is x. No struct of key and mix: this private function and the next alone share both, and `find`
+// and `insert` take words, number and key as the definitions do.
 fn same_at(work: &[u32], i: u32, key: Record, x: u32) -> bool
     requires i_bound { i < 1024 }
     requires mixed_at { MixedAt i work.now }
@@ -82,10 +84,8 @@ pub fn find(work: &[u32], k: u32, key: Record) -> Option<Net>
     ensures { result ≡ seek (numberer_in k work.now) (cell_of key) }
 {
     let x = mix(key);
-    if 16 < k {
-        if count_mix(work, k, x) == 0 {
-            return None;
-        }
+    if 16 < k && count_mix(work, k, x) == 0 {
+        return None;
     }
     find_first(work, k, key, x)
 }

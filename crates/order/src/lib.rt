@@ -61,7 +61,7 @@ fn visit_bit(work: &mut [u32], n: u32, s: Slot, count: u32) -> u32
     c + 1
 }
 
-// Walks down the operands, the last first.
+// Walks down the operands, the last first. Written out: a `for` would first list the three, and be longer.
 #[cycle(bits)]
 fn walk_operands(work: &mut [u32], n: u32, reads: Operands, count: u32) -> u32
     requires { Ready n count work.old }

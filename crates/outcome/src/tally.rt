@@ -1,7 +1,7 @@
 // How many trials there were, and how many of them differ.
 ghost use Rattle.std.specs.Prelude.{◌≡◌, ◌+◌, cond, min};
 
-#[derive(Clone, Copy, Debug)]
+#[derive(Clone, Copy, Debug, Default)]
 pub struct Tally {
     pub tried: u32,
     pub differ: u32,
@@ -12,10 +12,7 @@ impl Tally {
         ensures tried { result.tried ≡ 0 }
         ensures differ { result.differ ≡ 0 }
     {
-        Tally {
-            tried: 0,
-            differ: 0,
-        }
+        Tally::default()
     }
 
     pub fn and(self, differs: bool) -> Tally

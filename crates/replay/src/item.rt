@@ -1,4 +1,6 @@
 // A ticket of the list, tried. What is expected of a call is read from its file.
+ghost use Rattle.std.specs.Prelude.{◌≡◌};
+
 use oracle_list::{Files, ListError, Slices};
 use outcome::{Expected, Figures, Mismatch, Sums};
 use std::io::Read;
@@ -23,14 +25,21 @@ pub struct Item<'a> {
 }
 
 impl<'a> Item<'a> {
-    pub fn check<F: Read>(self, expected: &mut F, space: &mut [u32]) -> Result<(), Fault> {
-        let figures = Figures::from(oracle_list::read_entry(expected)?);
-        let work = Lent {
+    // The work slice, lent from a space.
+    fn work_in(self, space: &mut [u32]) -> Lent<u32>
+        ensures len { result.len ≡ self.entry.slices.work }
+        ensures seed { result.seed ≡ self.entry.seed }
+    {
+        Lent {
             space,
             len: self.slices.work,
             seed: self.seed,
-        };
-        Ok(trial::check(self.ticket, work, figures)?)
+        }
+    }
+
+    pub fn check<F: Read>(self, expected: &mut F, space: &mut [u32]) -> Result<(), Fault> {
+        let figures = Figures::from(oracle_list::read_entry(expected)?);
+        Ok(trial::check(self.ticket, self.work_in(space), figures)?)
     }
 
     // A call that writes a reply, with so many bytes for it.
@@ -43,11 +52,7 @@ impl<'a> Item<'a> {
     ) -> Result<(), Fault> {
         let figures = Figures::from(oracle_list::read_entry(expected)?);
         let sums = Sums::from(oracle_list::read_entry(expected)?);
-        let work = Lent {
-            space,
-            len: self.slices.work,
-            seed: self.seed,
-        };
+        let work = self.work_in(space);
         // A fixed buffer: with `Vec` the run could fail for want of memory.
         let mut bytes = [0; 17000];
         let reply = Lent {

@@ -1,10 +1,10 @@
 -- A ticket loaded and rewritten: 9, and 12 behind it. Assumes nothing.
-use mathlib.Core.Path.{◌≡◌, refl, sym, ap, ◌∙◌, subst}
+use mathlib.Core.Path.{◌≡◌, sym, ap, ◌∙◌, subst}
 use mathlib.Core.List.{List, [], ◌∷◌}
 use Prim.Native.Nat.{ℕ, ◌<◌, ◌≤◌}
 use native.Mathlib.Omega.{arith}
 use lib.Dec.{ltb}
-use lib.ListN.{length, drop}
+use lib.ListN.{drop}
 use borrow.Author.Tests.{lt-ltb, le-ltb}
 use Rattle.refusals.specs.declared.Refusal.{Refusal}
 use Rattle.cell.specs.declared.Record.{Record}
@@ -16,17 +16,15 @@ use Rattle.design.specs.Queue.{find_new_cell}
 use Rattle.compact.specs.Compact.{compact}
 use Rattle.design.specs.inner.Words.{netlist_in}
 use Rattle.rewrite.specs.Rewrite.{run, slots_of, rewrite}
-use Rattle.std.proofs.Common.{Result, Ok, Err}
+use Rattle.std.proofs.Common.{Result}
 use Rattle.std.specs.Result.{IsErrAnd}
-use Rattle.std.proofs.lemmas.Result.{err_from_is_err_and}
 use Rattle.rewriter.specs.inner.Run.{RewritesTo}
 use Rattle.refusals.specs.declared.Refusal.TheVariants.{SlotsExhausted}
 use Rattle.refusals.specs.Refusals.{Stage}
 use Rattle.refusals.proofs.Stages.{first-refuses, first_passes, no-stage}
-use Rattle.calls.specs.Answers.{answer_by}
-use Rattle.calls.specs.Calls.{room, encoded, rewrite_run, rewrite_bytes, rewrite_stages}
+use Rattle.calls.specs.Calls.{encoded, rewrite_run, rewrite_bytes, rewrite_stages}
 use Rattle.delivery.specs.inner.Delivery.{Delivers}
-use Rattle.delivery.proofs.Deciding.{refused-decides, passed-decides}
+use Rattle.delivery.proofs.Deciding.{refused-writes, passed-writes}
 use Rattle.rewrite_call.specs.inner.Rewrite.{RewritesTicket}
 
 module _ (n : ℕ) (ws ws₁ : List ℕ) (t reply : List ℕ) (loaded : records_in n ws ≡ records_of t) where
@@ -50,18 +48,14 @@ module _ (n : ℕ) (ws ws₁ : List ℕ) (t reply : List ℕ) (loaded : records_
       → IsErrAnd r (λ x. x ≡ SlotsExhausted) → RewritesTicket t ws ws₁ reply reply r
   unfolding rewrite_stages
   writes-none f r e =
-      let x = err_from_is_err_and r e in
-      refused-decides (λ v. answer_by v (length bytes)) (slot_stage ∷ []) (room reply bytes ∷ []) bytes ws ws₁ reply (Err SlotsExhausted)
-      (sym (first-refuses slot_stage [] (lt-ltb 1024 slots (subst (λ (k : ℕ). 1024 < k) same-run f.0)))) (behind f.1)
-      SlotsExhausted r refl (x.1 ∙ ap Err x.2)
+      refused-writes (slot_stage ∷ []) bytes ws ws₁ reply (behind f.1) SlotsExhausted
+      (sym (first-refuses slot_stage [] (lt-ltb 1024 slots (subst (λ (k : ℕ). 1024 < k) same-run f.0)))) r e
 
   pub writes-rewritten : (m : ℕ) (ws₂ reply' : List ℕ) (w : Result ℕ Refusal) → RewritesTo n m ws ws₁
       → Delivers (encoded (compact (netlist_in m ws₁))) ws₁ ws₂ reply reply' w
       → RewritesTicket t ws ws₂ reply reply' w
   unfolding rewrite_stages rewrite_bytes
   writes-rewritten m ws₂ reply' w f d =
-      let same : encoded (compact (netlist_in m ws₁)) ≡ bytes =
-      ap encoded (f.result ∙ ap (λ (rs : List Record). rewrite find_new_cell (netlist_of rs)) loaded) in
-      passed-decides (λ v. answer_by v (length bytes)) (slot_stage ∷ []) (room reply bytes ∷ []) bytes ws ws₁ reply (Ok tt)
-      (sym (first_passes slot_stage [] (le-ltb 1024 slots (subst (λ (k : ℕ). k ≤ 1024) (sym f.taken ∙ same-run) f.fit)) ∙ no-stage)) (behind f.frame)
-      ws₂ reply' w (subst (λ (b : List ℕ). Delivers b ws₁ ws₂ reply reply' w) same d) refl
+      passed-writes (slot_stage ∷ []) bytes ws ws₁ reply (behind f.frame)
+      (sym (first_passes slot_stage [] (le-ltb 1024 slots (subst (λ (k : ℕ). k ≤ 1024) (sym f.taken ∙ same-run) f.fit)) ∙ no-stage))
+      (encoded (compact (netlist_in m ws₁))) ws₂ reply' w (ap encoded (f.result ∙ ap (λ (rs : List Record). rewrite find_new_cell (netlist_of rs)) loaded)) d

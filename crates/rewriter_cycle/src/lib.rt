@@ -12,7 +12,8 @@ use normalize::Change;
 use rewriter_state::{Extent, Full};
 use value::{ControlNet, Net};
 
-// What is left of a cell that was processed (`RewriteResult`): itself, another form, or a net in its place. Three ways, so no Option of one.
+// What is left of a cell that was processed (`RewriteResult`): itself, another form, or a net in its place. Not an Option of
+// two, as the rules have it of a `Change` for `or_else`: each match has an arm for each of the three, and `Some` would stand around two.
 #[derive(Clone, Copy)]
 pub enum Processed {
     None,
@@ -27,12 +28,10 @@ fn rewrite_not(work: &[u32], x: Extent, a: Net) -> Processed
 {
     match aig::not_rule(rewriter_state::find_cell(work, x, a), a) {
         None => Processed::None,
-        Some(change) => match change {
-            Change::Value(n) => Processed::Value(n),
-            Change::Form(c) => Processed::Cell(c),
-            // Never: the rules for inverters add no cell.
-            Change::Add(_) | Change::NotOf(_) | Change::AddNotOf(_) => Processed::None,
-        },
+        Some(Change::Value(n)) => Processed::Value(n),
+        Some(Change::Form(c)) => Processed::Cell(c),
+        // Never: the rules for inverters add no cell.
+        Some(Change::Add(_) | Change::NotOf(_) | Change::AddNotOf(_)) => Processed::None,
     }
 }
 
@@ -66,7 +65,8 @@ fn xor_outcome(work: &[u32], x: Extent, a: Net, b: Net) -> Option<Change>
     xor_gate::xor_rule(look(a), look(b), a, b)
 }
 
-// `Cell::Xor`. It and `Cell::Aig` end in one match, since in the paper's form each rule function calls the adder itself (docs/DECISIONS.md).
+// `Cell::Xor`. It and `Cell::Aig` end in two equal matches: in the paper's form each arm calls the adder itself (docs/DECISIONS.md). What never
+// comes has an arm for each variant: of an or-pattern under `Some` the proof of the cycle could cite no variant.
 #[cycle(passes)]
 fn rewrite_xor(work: &mut [u32], x: &mut Extent, a: Net, b: Net) -> Result<Processed, Full>
     requires { Ready x.old work.old (Xor a b) }
@@ -74,16 +74,15 @@ fn rewrite_xor(work: &mut [u32], x: &mut Extent, a: Net, b: Net) -> Result<Proce
 {
     match xor_outcome(work, *x, a, b) {
         None => Ok(Processed::None),
-        Some(change) => match change {
-            Change::Value(n) => Ok(Processed::Value(n)),
-            Change::Form(c) => Ok(Processed::Cell(c)),
-            Change::NotOf(c) => {
-                let n = add_cell(work, x, c)?;
-                Ok(Processed::Cell(Cell::Not(n)))
-            }
-            // Never: no test of this arm asks for the net of a cell.
-            Change::Add(_) | Change::AddNotOf(_) => Ok(Processed::None),
-        },
+        Some(Change::Value(n)) => Ok(Processed::Value(n)),
+        Some(Change::Form(c)) => Ok(Processed::Cell(c)),
+        Some(Change::NotOf(c)) => {
+            let n = add_cell(work, x, c)?;
+            Ok(Processed::Cell(Cell::Not(n)))
+        }
+        // Never: no test of this arm asks for the net of a cell.
+        Some(Change::Add(_)) => Ok(Processed::None),
+        Some(Change::AddNotOf(_)) => Ok(Processed::None),
     }
 }
 
@@ -109,16 +108,15 @@ fn rewrite_aig(
 {
     match aig_outcome(work, *x, p, q) {
         None => Ok(Processed::None),
-        Some(change) => match change {
-            Change::Value(n) => Ok(Processed::Value(n)),
-            Change::Form(c) => Ok(Processed::Cell(c)),
-            Change::NotOf(c) => {
-                let n = add_cell(work, x, c)?;
-                Ok(Processed::Cell(Cell::Not(n)))
-            }
-            // Never: no test of this arm asks for the net of a cell.
-            Change::Add(_) | Change::AddNotOf(_) => Ok(Processed::None),
-        },
+        Some(Change::Value(n)) => Ok(Processed::Value(n)),
+        Some(Change::Form(c)) => Ok(Processed::Cell(c)),
+        Some(Change::NotOf(c)) => {
+            let n = add_cell(work, x, c)?;
+            Ok(Processed::Cell(Cell::Not(n)))
+        }
+        // Never: no test of this arm asks for the net of a cell.
+        Some(Change::Add(_)) => Ok(Processed::None),
+        Some(Change::AddNotOf(_)) => Ok(Processed::None),
     }
 }
 
@@ -138,8 +136,8 @@ fn simple_aig_opt(work: &mut [u32], x: &mut Extent, c: Cell) -> Result<Processed
     }
 }
 
-// One pass over the rules: `Normalize` is asked first, then `SimpleAigOpt`. It ends as `rewrite_not`: three arms in common, and of None the two
-// make different things.
+// One pass over the rules: `Normalize` is asked first, then `SimpleAigOpt`. It ends as `rewrite_not`, but of None the
+// two make different things.
 #[cycle(passes)]
 fn rules(work: &mut [u32], x: &mut Extent, c: Cell) -> Result<Processed, Full>
     requires { Ready x.old work.old c }
@@ -147,12 +145,12 @@ fn rules(work: &mut [u32], x: &mut Extent, c: Cell) -> Result<Processed, Full>
 {
     match normalize::normalize(c) {
         None => simple_aig_opt(work, x, c),
-        Some(change) => match change {
-            Change::Value(n) => Ok(Processed::Value(n)),
-            Change::Form(d) => Ok(Processed::Cell(d)),
-            // Never: `Normalize` adds no cell.
-            Change::Add(_) | Change::NotOf(_) | Change::AddNotOf(_) => Ok(Processed::None),
-        },
+        Some(Change::Value(n)) => Ok(Processed::Value(n)),
+        Some(Change::Form(d)) => Ok(Processed::Cell(d)),
+        // Never: `Normalize` adds no cell.
+        Some(Change::Add(_)) => Ok(Processed::None),
+        Some(Change::NotOf(_)) => Ok(Processed::None),
+        Some(Change::AddNotOf(_)) => Ok(Processed::None),
     }
 }
 

@@ -16,8 +16,9 @@ use netlist::area;
 use refusals::Refusal;
 use value::{Driver, Net, Slot};
 
-// How far the rewriter is: the ticket's slots, all slots, the entries of the cache, the last stamp. It goes beside the work slice: a struct of both
-// would hold a `&mut` (netlist/src/area.rt), so what holds of the two is said by clauses.
+// How far the rewriter is: the ticket's slots, all slots, the entries of the cache, the last stamp. It goes beside the work slice, and what holds of
+// the two is said by clauses. Where the words are written a struct of both would hold a `&mut`; where they are only read, the look-ups take the two
+// as their definitions do (netlist/src/area.rt).
 #[derive(Clone, Copy)]
 pub struct Extent {
     pub tickets: u32,

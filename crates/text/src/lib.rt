@@ -1,7 +1,8 @@
 // The lines that are printed. Each function puts something at a place of the text and answers the place behind it.
 // Text and place are two parameters: a struct that holds the `&mut` would owe its ghost name in a clause of each function.
 // No Display: tried, with an `ArrayString<80>` to print into. That `write!` succeeds is promised nowhere, so the goal where it fails stayed open, and
-// these functions cannot fail.
+// these functions cannot fail. With `ArrayString::push_str`, which asks for room and cannot fail, each function would state that room as it does here, and the
+// line would be copied into the text: a second buffer in place of `at`.
 #![tactic(auto)]
 
 ghost use Rattle.std.specs.Prelude.{◌+◌, ◌*◌, ◌≤◌, length};

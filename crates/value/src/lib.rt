@@ -23,7 +23,8 @@ pub enum ControlNet {
     Neg(Net),
 }
 
-// What drives a net. No Result, as it is in the Rust: neither side is a failure, and `Const` and `Cell` say which is which.
+// What drives a net. In the Rust it is `Result<usize, Trit>`. An enum here: a constant is no error, and the definitions match on `Const` and `Cell`
+// by name.
 #[derive(Clone, Copy, Debug, PartialEq, Eq)]
 pub enum Driver {
     Const(Trit),

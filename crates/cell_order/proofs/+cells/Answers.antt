@@ -5,7 +5,7 @@ use native.Mathlib.Omega.{arith}
 use lib.Dec.{lit≤}
 use Rattle.order.proofs.Words.{new-below}
 use Rattle.order.proofs.Walking.{walks-ready, marked-falls, marked-ready}
-use Rattle.cell_order.proofs.Cells.{deps-none, deps-new, deps-falls, deps-more, cell-next, cell-done}
+use Rattle.cell_order.proofs.Cells.{deps-none, deps-new, deps-next, deps-falls, deps-more, cell-next, cell-done}
 use borrow.Author.Rules.{rules}
 use Rattle.cell_order.proofs.+cells.Goals as goal
 
@@ -21,11 +21,14 @@ visit_cell-returns t c = search cell-done
 pub walk_deps-visit_cell-c-requires : goal.walk_deps-visit_cell-c-requires
 walk_deps-visit_cell-c-requires t c = (omega arith, (search rules, search deps-new))
 
+pub walk_deps-overflow_add-x : goal.walk_deps-overflow_add-x
+walk_deps-overflow_add-x t c = search deps-next
+
 pub walk_deps-walk_deps-requires : goal.walk_deps-walk_deps-requires
 walk_deps-walk_deps-requires t c = (search deps-falls, (search walks-ready, search rules))
 
-pub walk_deps-returns-then-x-n : goal.walk_deps-returns-then-x-n
-walk_deps-returns-then-x-n t c = search deps-more
+pub walk_deps-returns-in-Some : goal.walk_deps-returns-in-Some
+walk_deps-returns-in-Some t c = search deps-more
 
-pub walk_deps-returns : goal.walk_deps-returns
-walk_deps-returns t c = search deps-none
+pub walk_deps-returns-in-None : goal.walk_deps-returns-in-None
+walk_deps-returns-in-None t c = search deps-none

@@ -1,6 +1,7 @@
 -- How the walk goes down from a cell. Assumes nothing: these are definitions.
-use Rattle.std.specs.Prelude.{◌≡◌, true, false, ◌&&◌, List, ◌++◌, map, ℕ, suc, ◌+◌, ◌<◌, ◌≤◌, eqb, leb, length, drop}
+use Rattle.std.specs.Prelude.{◌≡◌, true, false, ◌&&◌, List, ◌++◌, map, ℕ, suc, ◌+◌, ◌<◌, ◌≤◌, eqb, leb, length, drop, Option, Some, None}
 use Rattle.value.specs.declared.Net.{Net}
+use Rattle.value.specs.declared.Slot.{Slot}
 use Rattle.value.specs.Value.{driver}
 use Rattle.cell.specs.declared.Record.{Record}
 use Rattle.cell.specs.Records.{cell_of}
@@ -36,6 +37,11 @@ pub record Lowest (n : ℕ) (ws : List ℕ) (from : ℕ) (xs : List ℕ) (r : �
   pub found : r < n → (from ≤ r) × (any_of (eqb r) xs ≡ true) × (visited_in n ws r ≡ false)
   pub lowest : (y : ℕ) → from ≤ y → y < r → any_of (eqb y) xs ≡ true → visited_in n ws y ≡ true
 
--- the same, found from the lowest item of some others
+-- the same as a slot, or none
+pub record LowestSlot (n : ℕ) (ws : List ℕ) (from : ℕ) (xs : List ℕ) (r : Option Slot) : Type 0 where
+  pub none : r ≡ None → Lowest n ws from xs n
+  pub found : (s : Slot) → r ≡ Some s → (s.0 < n) × Lowest n ws from xs s.0
+
+-- the lowest, found from the lowest item of some others
 pub record Lowers (n : ℕ) (ws : List ℕ) (from : ℕ) (xs : List ℕ) (best r : ℕ) : Type 0 where
   pub lowers : (ys : List ℕ) → Lowest n ws from ys best → Lowest n ws from (ys ++ xs) r

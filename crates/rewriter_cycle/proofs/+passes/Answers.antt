@@ -1,5 +1,4 @@
 -- The proof of the cycle of rules and adder. Assumes nothing.
-use mathlib.Core.Logic.{⊎_elim}
 use Rattle.normalize.proofs.First.{some-of}
 use Rattle.rewriter_cycle.proofs.Arms.{aig-no-add, aig-no-both, xor-no-add, xor-no-both, normalize-no-add, normalize-no-not, normalize-no-both}
 use Rattle.rewriter_cycle.proofs.Passes.{processed-held, add_none, add-cell, add-value, add-full, decided, add-ready, add-falls, performs-add, performs-add-full, not-ready, not-falls, performs-not, both-ready, both-falls, both-performs-full, inverse-ready, inverse-falls, performs-both, inverse-performs-full, and_is, or_is, not-performs, other-performs, ruled-value, ruled-form, ruled-opted, forms-full, forms-held, forms-found, forms-new, forms-value, forms-less, forms-on}
@@ -50,20 +49,26 @@ rewrite_or-returns t c = let g = c.in_ok-n.ensures in let h = c.in_ok-inverse.en
 pub rewrite_xor-add_cell-requires : goal.rewrite_xor-add_cell-requires
 rewrite_xor-add_cell-requires t c = (search (not-falls, decided), search (not-ready, decided))
 
-pub rewrite_xor-returns-in_ok-n-in-NotOf : goal.rewrite_xor-returns-in_ok-n-in-NotOf
-rewrite_xor-returns-in_ok-n-in-NotOf t c = let h = c.in_ok-n-in-NotOf.ensures in search (performs-not, decided)
+pub rewrite_xor-returns-in_ok-n-in-Some-NotOf : goal.rewrite_xor-returns-in_ok-n-in-Some-NotOf
+rewrite_xor-returns-in_ok-n-in-Some-NotOf t c = let h = c.in_ok-n-in-Some-NotOf.ensures in search (performs-not, decided)
 
-pub rewrite_xor-returns-in-Add : goal.rewrite_xor-returns-in-Add
-rewrite_xor-returns-in-Add t c = absurd (⊎_elim (λ e. search xor-no-add) (λ e. search xor-no-both) c.in-Add.is)
+pub rewrite_xor-returns-in-Some-Add : goal.rewrite_xor-returns-in-Some-Add
+rewrite_xor-returns-in-Some-Add t c = absurd (search xor-no-add)
+
+pub rewrite_xor-returns-in-Some-AddNotOf : goal.rewrite_xor-returns-in-Some-AddNotOf
+rewrite_xor-returns-in-Some-AddNotOf t c = absurd (search xor-no-both)
 
 pub rewrite_aig-add_cell-requires : goal.rewrite_aig-add_cell-requires
 rewrite_aig-add_cell-requires t c = (search (not-falls, decided), search (not-ready, decided))
 
-pub rewrite_aig-returns-in_ok-n-in-NotOf : goal.rewrite_aig-returns-in_ok-n-in-NotOf
-rewrite_aig-returns-in_ok-n-in-NotOf t c = let h = c.in_ok-n-in-NotOf.ensures in search (performs-not, decided)
+pub rewrite_aig-returns-in_ok-n-in-Some-NotOf : goal.rewrite_aig-returns-in_ok-n-in-Some-NotOf
+rewrite_aig-returns-in_ok-n-in-Some-NotOf t c = let h = c.in_ok-n-in-Some-NotOf.ensures in search (performs-not, decided)
 
-pub rewrite_aig-returns-in-Add : goal.rewrite_aig-returns-in-Add
-rewrite_aig-returns-in-Add t c = absurd (⊎_elim (λ e. search aig-no-add) (λ e. search aig-no-both) c.in-Add.is)
+pub rewrite_aig-returns-in-Some-Add : goal.rewrite_aig-returns-in-Some-Add
+rewrite_aig-returns-in-Some-Add t c = absurd (search aig-no-add)
+
+pub rewrite_aig-returns-in-Some-AddNotOf : goal.rewrite_aig-returns-in-Some-AddNotOf
+rewrite_aig-returns-in-Some-AddNotOf t c = absurd (search aig-no-both)
 
 pub simple_aig_opt-returns-in-Not : goal.simple_aig_opt-returns-in-Not
 simple_aig_opt-returns-in-Not t c = search not-performs
@@ -74,14 +79,20 @@ simple_aig_opt-returns-in_default t c = let n = c.in_default in other-performs _
 pub rules-returns-in-None : goal.rules-returns-in-None
 rules-returns-in-None t c = search ruled-opted
 
-pub rules-returns-in-Value : goal.rules-returns-in-Value
-rules-returns-in-Value t c = search (ruled-value, some-of)
+pub rules-returns-in-Some-Value : goal.rules-returns-in-Some-Value
+rules-returns-in-Some-Value t c = rw c.in-Some-Value.n-is (search (ruled-value, some-of))
 
-pub rules-returns-in-Form : goal.rules-returns-in-Form
-rules-returns-in-Form t c = search (ruled-form, some-of)
+pub rules-returns-in-Some-Form : goal.rules-returns-in-Some-Form
+rules-returns-in-Some-Form t c = rw c.in-Some-Form.d-is (search (ruled-form, some-of))
 
-pub rules-returns-in-Add : goal.rules-returns-in-Add
-rules-returns-in-Add t c = absurd (⊎_elim (λ e. search normalize-no-add) (⊎_elim (λ e. search normalize-no-not) (λ e. search normalize-no-both)) c.in-Add.is)
+pub rules-returns-in-Some-Add : goal.rules-returns-in-Some-Add
+rules-returns-in-Some-Add t c = absurd (search normalize-no-add)
+
+pub rules-returns-in-Some-NotOf : goal.rules-returns-in-Some-NotOf
+rules-returns-in-Some-NotOf t c = absurd (search normalize-no-not)
+
+pub rules-returns-in-Some-AddNotOf : goal.rules-returns-in-Some-AddNotOf
+rules-returns-in-Some-AddNotOf t c = absurd (search normalize-no-both)
 
 pub process_cell-returns-in_err-rules : goal.process_cell-returns-in_err-rules
 process_cell-returns-in_err-rules t c = let h = c.in_err-rules.ensures in let f = c.from_residual.ensures.0 in search forms-full

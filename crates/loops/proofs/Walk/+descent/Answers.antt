@@ -8,8 +8,8 @@ use Rattle.loops.proofs.Walk.+descent.Goals as goal
 pub meet-visit-requires : goal.meet-visit-requires
 meet-visit-requires t c = (omega arith, search meet-new)
 
-pub meet-returns-then-stops : goal.meet-returns-then-stops
-meet-returns-then-stops t c = search meet-open
+pub meet-returns-in-1 : goal.meet-returns-in-1
+meet-returns-in-1 t c = search meet-open
 
 pub visit-visit_edges-next-requires : goal.visit-visit_edges-next-requires
 visit-visit_edges-next-requires t c = (search visit-falls, search opens)
