@@ -1,0 +1,5 @@
+pub mod Same
+pub mod Doubled
+pub mod Search
+pub mod Example
+pub mod Comparing

@@ -1,0 +1,2 @@
+-- What the contracts of inner functions cite. Public contracts cite none of it.
+pub mod Search
