@@ -19,7 +19,7 @@ use value::Net;
 pub mod source;
 
 // `Cell::Not`
-#[tactic(auto, unfolding(normalize::specs::Outcomes::first_change, crate::specs::Aig::not_rule, crate::specs::Aig::if_not, crate::specs::inner::Sources::not_in, value::specs::Value::eq_net))]
+#[tactic(auto, using(normalize::proofs::First::in_turn), unfolding(crate::specs::Aig::not_rule, crate::specs::Aig::if_not, crate::specs::inner::Sources::not_in, value::specs::Value::eq_net))]
 pub fn not_rule(src: Option<Cell>, n: Net) -> Option<Change>
     ensures { result ≡ not_rule src n }
 {

@@ -11,7 +11,7 @@ use normalize::Change;
 use value::{ControlNet, Net};
 
 // (aa & ab) & (ba & bb)
-#[tactic(auto, using(normalize::proofs::First::tests), unfolding(normalize::specs::Outcomes::first_change, aig::specs::Aig::and_and))]
+#[tactic(auto, using(normalize::proofs::First::tests, normalize::proofs::First::in_turn), unfolding(aig::specs::Aig::and_and))]
 fn and_and(a: ControlNet, aa: ControlNet, ba: ControlNet, bb: ControlNet) -> Option<Change>
     ensures { result ≡ and_and a aa ba bb }
 {
@@ -26,7 +26,7 @@ fn and_and(a: ControlNet, aa: ControlNet, ba: ControlNet, bb: ControlNet) -> Opt
     None
 }
 
-#[tactic(auto, unfolding(normalize::specs::Outcomes::first_change, aig::specs::Aig::if_aig, aig::specs::inner::Sources::aig_in))]
+#[tactic(auto, using(normalize::proofs::First::in_turn), unfolding(aig::specs::Aig::if_aig, aig::specs::inner::Sources::aig_in))]
 fn and_with_and(src_b: Option<Cell>, a: ControlNet, b: ControlNet, aa: ControlNet) -> Option<Change>
     ensures { result ≡ if_aig src_b (λ b1 b2. given (is_positive b) (either_way (and_and a aa) b1 b2)) }
 {
@@ -38,7 +38,7 @@ fn and_with_and(src_b: Option<Cell>, a: ControlNet, b: ControlNet, aa: ControlNe
 }
 
 // (aa & ab) & b
-#[tactic(auto, using(normalize::proofs::First::tests), unfolding(normalize::specs::Outcomes::first_change, aig::specs::Aig::and_with))]
+#[tactic(auto, using(normalize::proofs::First::tests, normalize::proofs::First::in_turn), unfolding(aig::specs::Aig::and_with))]
 fn and_with(src_b: Option<Cell>, a: ControlNet, b: ControlNet, aa: ControlNet) -> Option<Change>
     ensures { result ≡ and_with src_b a b aa }
 {
@@ -53,7 +53,7 @@ fn and_with(src_b: Option<Cell>, a: ControlNet, b: ControlNet, aa: ControlNet) -
     and_with_and(src_b, a, b, aa)
 }
 
-#[tactic(auto, unfolding(normalize::specs::Outcomes::first_change))]
+#[tactic(auto, using(normalize::proofs::First::in_turn))]
 pub fn and_with_either(
     src_b: Option<Cell>,
     a: ControlNet,

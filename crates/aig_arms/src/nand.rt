@@ -11,7 +11,7 @@ use normalize::Change;
 use value::ControlNet;
 
 // ~(aa & ab) & (ba & bb)
-#[tactic(auto, using(normalize::proofs::First::tests), unfolding(normalize::specs::Outcomes::first_change, aig::specs::Aig::nand_and))]
+#[tactic(auto, using(normalize::proofs::First::tests, normalize::proofs::First::in_turn), unfolding(aig::specs::Aig::nand_and))]
 fn nand_and(b: ControlNet, aa: ControlNet, ab: ControlNet, ba: ControlNet) -> Option<Change>
     ensures { result ≡ nand_and b aa ab ba }
 {
@@ -40,7 +40,7 @@ fn xor_of(aa: ControlNet, ab: ControlNet) -> Change
 }
 
 // ~(aa & ab) & ~(ba & bb)
-#[tactic(auto, using(normalize::proofs::First::tests), unfolding(normalize::specs::Outcomes::first_change, aig::specs::Aig::nand_nand))]
+#[tactic(auto, using(normalize::proofs::First::tests, normalize::proofs::First::in_turn), unfolding(aig::specs::Aig::nand_nand))]
 fn nand_nand(aa: ControlNet, ab: ControlNet, ba: ControlNet, bb: ControlNet) -> Option<Change>
     ensures { result ≡ nand_nand aa ab ba bb }
 {
@@ -58,7 +58,7 @@ fn nand_nand(aa: ControlNet, ab: ControlNet, ba: ControlNet, bb: ControlNet) -> 
     None
 }
 
-#[tactic(auto, unfolding(normalize::specs::Outcomes::first_change, aig::specs::Aig::if_aig, aig::specs::inner::Sources::aig_in))]
+#[tactic(auto, using(normalize::proofs::First::in_turn), unfolding(aig::specs::Aig::if_aig, aig::specs::inner::Sources::aig_in))]
 fn nand_with_aig(
     src_b: Option<Cell>,
     b: ControlNet,
@@ -75,7 +75,7 @@ fn nand_with_aig(
 }
 
 // ~(aa & ab) & b
-#[tactic(auto, using(normalize::proofs::First::tests), unfolding(normalize::specs::Outcomes::first_change, aig::specs::Aig::nand_with))]
+#[tactic(auto, using(normalize::proofs::First::tests, normalize::proofs::First::in_turn), unfolding(aig::specs::Aig::nand_with))]
 fn nand_with(src_b: Option<Cell>, b: ControlNet, aa: ControlNet, ab: ControlNet) -> Option<Change>
     ensures { result ≡ nand_with src_b b aa ab }
 {
@@ -90,7 +90,7 @@ fn nand_with(src_b: Option<Cell>, b: ControlNet, aa: ControlNet, ab: ControlNet)
     nand_with_aig(src_b, b, aa, ab)
 }
 
-#[tactic(auto, unfolding(normalize::specs::Outcomes::first_change))]
+#[tactic(auto, using(normalize::proofs::First::in_turn))]
 pub fn nand_with_either(
     src_b: Option<Cell>,
     b: ControlNet,

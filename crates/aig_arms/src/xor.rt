@@ -22,7 +22,7 @@ fn xor_and(a: ControlNet, b: ControlNet, aa: Net, ab: Net, on: ControlNet) -> Op
     None
 }
 
-#[tactic(auto, unfolding(normalize::specs::Outcomes::first_change, aig::specs::Aig::if_aig, aig::specs::inner::Sources::aig_in))]
+#[tactic(auto, using(normalize::proofs::First::in_turn), unfolding(aig::specs::Aig::if_aig, aig::specs::inner::Sources::aig_in))]
 fn xor_with_and(
     src_b: Option<Cell>,
     a: ControlNet,
@@ -39,14 +39,14 @@ fn xor_with_and(
     xor_and(a, b, aa, ab, b1).or_else(|| xor_and(a, b, aa, ab, b2))
 }
 
-#[tactic(auto, unfolding(normalize::specs::Outcomes::first_change, aig::specs::Aig::xor_with))]
+#[tactic(auto, using(normalize::proofs::First::in_turn), unfolding(aig::specs::Aig::xor_with))]
 fn xor_with(src_b: Option<Cell>, a: ControlNet, b: ControlNet, aa: Net, ab: Net) -> Option<Change>
     ensures { result ≡ xor_with src_b a b aa ab }
 {
     xor_and(a, b, aa, ab, b).or_else(|| xor_with_and(src_b, a, b, aa, ab))
 }
 
-#[tactic(auto, unfolding(normalize::specs::Outcomes::first_change))]
+#[tactic(auto, using(normalize::proofs::First::in_turn))]
 pub fn xor_with_either(
     src_b: Option<Cell>,
     a: ControlNet,

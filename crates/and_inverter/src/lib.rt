@@ -29,7 +29,7 @@ fn merged(v: Net, a: ControlNet, b: ControlNet) -> Change
 }
 
 // By the sign of a.
-#[tactic(auto, unfolding(normalize::specs::Outcomes::first_change))]
+#[tactic(auto, using(normalize::proofs::First::in_turn))]
 fn aig_of_aig(
     src_b: Option<Cell>,
     a: ControlNet,
@@ -46,7 +46,7 @@ fn aig_of_aig(
 }
 
 // By the kind of the cell that a is of.
-#[tactic(auto, unfolding(normalize::specs::Outcomes::first_change, aig::specs::Aig::if_not, aig::specs::Aig::if_aig, aig::specs::Aig::if_xor, aig::specs::Aig::aig_of_not, aig::specs::Aig::aig_of_and, aig::specs::Aig::aig_of_nand, aig::specs::Aig::aig_of_xor))]
+#[tactic(auto, using(normalize::proofs::First::in_turn), unfolding(aig::specs::Aig::if_not, aig::specs::Aig::if_aig, aig::specs::Aig::if_xor, aig::specs::Aig::aig_of_not, aig::specs::Aig::aig_of_and, aig::specs::Aig::aig_of_nand, aig::specs::Aig::aig_of_xor))]
 fn aig_of_gate(
     src_a: Option<Cell>,
     src_b: Option<Cell>,
@@ -63,7 +63,7 @@ fn aig_of_gate(
     }
 }
 
-#[tactic(auto, using(normalize::proofs::First::tests), unfolding(normalize::specs::Outcomes::first_change, aig::specs::Aig::aig_order))]
+#[tactic(auto, using(normalize::proofs::First::tests, normalize::proofs::First::in_turn), unfolding(aig::specs::Aig::aig_order))]
 fn aig_order(
     src_a: Option<Cell>,
     src_b: Option<Cell>,
@@ -87,7 +87,7 @@ fn aig_order(
 }
 
 // In both orders of the operands. `xor_rule` is the same over nets: one function for both would take the order as a closure, and be no shorter.
-#[tactic(auto, unfolding(normalize::specs::Outcomes::first_change, aig::specs::Aig::aig_rule))]
+#[tactic(auto, using(normalize::proofs::First::in_turn), unfolding(aig::specs::Aig::aig_rule))]
 pub fn aig_rule(
     src1: Option<Cell>,
     src2: Option<Cell>,

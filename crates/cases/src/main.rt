@@ -6,7 +6,7 @@ use case_file::NotUnderstood;
 use outcome::{Mismatch, Tally};
 use std::{fs, io};
 use thiserror::Error;
-use trial::Lent;
+use trial::Loan;
 
 // Why a case differs.
 #[derive(Clone, Copy, Debug, Error)]
@@ -20,7 +20,7 @@ enum Fault {
 // Reads a case, builds its ticket and runs it.
 fn tried(case: &[u8], ticket: &mut [u8], space: &mut [u32], seed: u32) -> Result<(), Fault> {
     let case = case_file::read(case, ticket)?;
-    let work = Lent {
+    let work = Loan {
         space,
         len: case.lent as usize,
         seed,

@@ -12,9 +12,6 @@ use lib.ListN.{length}
 use Rattle.std.specs.Prelude.{Ok, Err}
 use Rattle.basics.proofs.Truth.{either}
 use Rattle.value.specs.Value.{slot_at}
-use Rattle.kinds.specs.declared.Field.{Field}
-use Rattle.kinds.specs.declared.Field.TheVariants as field
-use Rattle.kinds.specs.Kinds.{field_number}
 use Rattle.cell.specs.declared.Record.{Record}
 use Rattle.cell.specs.Operands.{is_operand}
 use Rattle.cell.proofs.Operands.{operand-field}
@@ -65,7 +62,7 @@ module _ (rs : List Record) (s : ℕ) where
     λ e.
         let p = (passed-exactly (operand_stages rs s)).0 e in
         fields-driven rs (record_in rs s) (p 0 (omega arith)) (p 1 (omega arith)) (p 2 (omega arith)),
-    λ p. first_passes (operand_stage rs s field.A) _ (p 1) ∙ first_passes (operand_stage rs s field.B) _ (p 2) ∙ (one-exactly (operand_stage rs s field.C)).1 (p 3),
+    λ p. first_passes (operand_stage rs s 1) _ (p 1) ∙ first_passes (operand_stage rs s 2) _ (p 2) ∙ (one-exactly (operand_stage rs s 3)).1 (p 3),
   )
 
   pub loop-exactly : (first_of (loop_stages rs s) ≡ Ok tt) ↔ (on_loop rs s ≡ false)
@@ -75,47 +72,57 @@ module _ (rs : List Record) (s : ℕ) where
 -- ---- 7 by field
 -- a refusal is 7 at s, and names the least field that fails
 pub record NamesField (rs : List Record) (s : ℕ) (x : Refusal) : Type 0 where
-  pub which : Field
-  pub is : x ≡ UndrivenOperand (slot_at s) which
-  pub fails : undriven_field rs (record_in rs s) (field_number which) ≡ true
-  pub least : (g : ℕ) → g < field_number which → undriven_field rs (record_in rs s) g ≡ false
+  pub field : ℕ
+  pub is : x ≡ UndrivenOperand (slot_at s) field
+  pub fails : undriven_field rs (record_in rs s) field ≡ true
+  pub least : (g : ℕ) → g < field → undriven_field rs (record_in rs s) g ≡ false
 
 module _ (rs : List Record) (s : ℕ) where
   abbrev undriven-at : ℕ → Bool
   undriven-at = undriven_field rs (record_in rs s)
 
-  abbrev Names : Field → Type 0
+  abbrev Names : ℕ → Type 0
   Names f = first_of (operand_stages rs s) ≡ Err (UndrivenOperand (slot_at s) f)
 
-  pub first_field : undriven-at 1 ≡ true → Names field.A
+  pub first_field : undriven-at 1 ≡ true → Names 1
   unfolding operand_stages
-  first_field a = first-refuses (operand_stage rs s field.A) _ a
+  first_field a = first-refuses (operand_stage rs s 1) _ a
 
-  pub second-field : undriven-at 1 ≡ false → undriven-at 2 ≡ true → Names field.B
+  pub second-field : undriven-at 1 ≡ false → undriven-at 2 ≡ true → Names 2
   unfolding operand_stages
-  second-field a b = first_passes (operand_stage rs s field.A) _ a ∙ first-refuses (operand_stage rs s field.B) _ b
+  second-field a b = first_passes (operand_stage rs s 1) _ a ∙ first-refuses (operand_stage rs s 2) _ b
 
-  pub third-field : undriven-at 1 ≡ false → undriven-at 2 ≡ false → undriven-at 3 ≡ true → Names field.C
+  pub third-field : undriven-at 1 ≡ false → undriven-at 2 ≡ false → undriven-at 3 ≡ true → Names 3
   unfolding operand_stages
-  third-field a b c = first_passes (operand_stage rs s field.A) _ a ∙ first_passes (operand_stage rs s field.B) _ b ∙ first-refuses (operand_stage rs s field.C) _ c
+  third-field a b c = first_passes (operand_stage rs s 1) _ a ∙ first_passes (operand_stage rs s 2) _ b ∙ first-refuses (operand_stage rs s 3) _ c
 
   -- the group names the least field that fails
-  pub names-least : (f : Field) → undriven-at (field_number f) ≡ true → ((g : ℕ) → g < field_number f → undriven-at g ≡ false) → Names f
-  names-least field.A fails least = first_field fails
-  names-least field.B fails least = second-field (least 1 (omega arith)) fails
-  names-least field.C fails least = third-field (least 1 (omega arith)) (least 2 (omega arith)) fails
+  pub names-least : (f : ℕ) → undriven-at f ≡ true → ((g : ℕ) → g < f → undriven-at g ≡ false) → Names f
+  names-least f fails least = ⊎_elim (at 1 one) (⊎_elim (at 2 two) (at 3 three)) (failing-field rs (record_in rs s) f fails)
+    where
+      one : undriven-at 1 ≡ true → f ≡ 1 → Names 1
+      one h q = first_field h
+
+      two : undriven-at 2 ≡ true → f ≡ 2 → Names 2
+      two h q = second-field (least 1 (omega arith)) h
+
+      three : undriven-at 3 ≡ true → f ≡ 3 → Names 3
+      three h q = third-field (least 1 (omega arith)) (least 2 (omega arith)) h
+
+      at : (k : ℕ) → (undriven-at k ≡ true → f ≡ k → Names k) → f ≡ k → Names f
+      at k h q = subst Names (sym q) (h (subst (λ (j : ℕ). undriven-at j ≡ true) q fails) q)
 
   -- and no other refusal
   pub group-names : (x : Refusal) → first_of (operand_stages rs s) ≡ Err x → NamesField rs s x
   group-names x e = go (undriven-at 1) (undriven-at 2) (undriven-at 3) refl refl refl
     where
-      named : (f : Field) → Names f → undriven-at (field_number f) ≡ true → ((g : ℕ) → g < field_number f → undriven-at g ≡ false) → NamesField rs s x
-      named f n h l = record { which = f; is = refused-inj x (UndrivenOperand (slot_at s) f) (sym e ∙ n); fails = h; least = l }
+      named : (f : ℕ) → Names f → undriven-at f ≡ true → ((g : ℕ) → g < f → undriven-at g ≡ false) → NamesField rs s x
+      named f n h l = record { field = f; is = refused-inj x (UndrivenOperand (slot_at s) f) (sym e ∙ n); fails = h; least = l }
 
       go : (a b c : Bool) → undriven-at 1 ≡ a → undriven-at 2 ≡ b → undriven-at 3 ≡ c → NamesField rs s x
-      go true b c p q r = named field.A (first_field p) p (λ g l. driven-by rs (record_in rs s) g (λ i. absurd (omega arith)) (λ i. absurd (omega arith)) (λ i. absurd (omega arith)))
-      go false true c p q r = named field.B (second-field p q) q (λ g l. driven-by rs (record_in rs s) g (λ i. p) (λ i. absurd (omega arith)) (λ i. absurd (omega arith)))
-      go false false true p q r = named field.C (third-field p q r) r (λ g l. driven-by rs (record_in rs s) g (λ i. p) (λ i. q) (λ i. absurd (omega arith)))
+      go true b c p q r = named 1 (first_field p) p (λ g l. driven-by rs (record_in rs s) g (λ i. absurd (omega arith)) (λ i. absurd (omega arith)) (λ i. absurd (omega arith)))
+      go false true c p q r = named 2 (second-field p q) q (λ g l. driven-by rs (record_in rs s) g (λ i. p) (λ i. absurd (omega arith)) (λ i. absurd (omega arith)))
+      go false false true p q r = named 3 (third-field p q r) r (λ g l. driven-by rs (record_in rs s) g (λ i. p) (λ i. q) (λ i. absurd (omega arith)))
       go false false false p q r = absurd (passes-not x (sym ((operand-exactly rs s).1 (fields-driven rs (record_in rs s) p q r)) ∙ e))
 
 -- each group of a record passes

@@ -14,7 +14,6 @@ use Rattle.std.proofs.lemmas.List.FromFn.{sum_by-map-range_with_len_more}
 use Rattle.value.specs.declared.Slot.{Slot}
 use Rattle.value.specs.declared.Driver.{Driver}
 use Rattle.value.specs.declared.Driver.TheVariants as driven
-use Rattle.kinds.specs.declared.Field.TheVariants as field
 use Rattle.cell.specs.declared.Record.{Record}
 use Rattle.kinds.specs.Kinds.{kind_of}
 use Rattle.basics.specs.Lists.{tabulate}
@@ -49,15 +48,15 @@ module _ (t : List ℕ) (s : Slot) (h : s.0 < length t / 16) (r : Record) (q : r
   tested f x b x-is e = ap (λ (q : Record). undriven_field rs q f) here ∙ sym x-is ∙ e
 
   module _ (x : Bool) (x-is : x ≡ undriven_field (records_of t) r 1) where
-    pub refuses-a : x ≡ true → Err (UndrivenOperand s field.A) ≡ first_of (operand_stages (records_of t) s.0)
+    pub refuses-a : x ≡ true → Err (UndrivenOperand s 1) ≡ first_of (operand_stages (records_of t) s.0)
     refuses-a e = sym (first_field rs s.0 (tested 1 x true x-is e))
 
     module _ (x-no : x ≡ false) (y : Bool) (y-is : y ≡ undriven_field (records_of t) r 2) where
-      pub refuses-b : y ≡ true → Err (UndrivenOperand s field.B) ≡ first_of (operand_stages (records_of t) s.0)
+      pub refuses-b : y ≡ true → Err (UndrivenOperand s 2) ≡ first_of (operand_stages (records_of t) s.0)
       refuses-b e = sym (second-field rs s.0 (tested 1 x false x-is x-no) (tested 2 y true y-is e))
 
       module _ (y-no : y ≡ false) (z : Bool) (z-is : z ≡ undriven_field (records_of t) r 3) where
-        pub refuses-c : z ≡ true → Err (UndrivenOperand s field.C) ≡ first_of (operand_stages (records_of t) s.0)
+        pub refuses-c : z ≡ true → Err (UndrivenOperand s 3) ≡ first_of (operand_stages (records_of t) s.0)
         refuses-c e = sym (third-field rs s.0 (tested 1 x false x-is x-no) (tested 2 y false y-is y-no) (tested 3 z true z-is e))
 
         pub all-driven : z ≡ false → Ok tt ≡ first_of (operand_stages (records_of t) s.0)

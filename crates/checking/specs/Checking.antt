@@ -7,10 +7,8 @@ use Rattle.cell.specs.declared.Record.{Record}
 use Rattle.kinds.specs.declared.Use.{Use}
 use Rattle.kinds.specs.declared.Use.TheVariants.{Unused, Label, Operand}
 use Rattle.cell.specs.Limits.{work_words, max_records}
-use Rattle.kinds.specs.declared.Field.{Field}
-use Rattle.kinds.specs.declared.Field.TheVariants as field
 use Rattle.kinds.specs.declared.Sort.TheVariants as sort
-use Rattle.kinds.specs.Kinds.{is_known, number_of, kind_of, field_number}
+use Rattle.kinds.specs.Kinds.{is_known, number_of, kind_of}
 use Rattle.cell.specs.Operands.{field_of, is_operand}
 use Rattle.cell.specs.Records.{records_of, record_in}
 use Rattle.loops.specs.Reach.{on_loop}
@@ -64,8 +62,8 @@ field_stage rs s = (reserved_field (record_in rs s), ReservedField (slot_at s))
 abbrev pub bit_stage : List Record → ℕ → Stage
 bit_stage rs s = (bit_out_of_sequence rs s, BitOutOfSequence (slot_at s))
 
-abbrev pub operand_stage : List Record → ℕ → Field → Stage
-operand_stage rs s f = (undriven_field rs (record_in rs s) (field_number f), UndrivenOperand (slot_at s) f)
+abbrev pub operand_stage : List Record → ℕ → ℕ → Stage
+operand_stage rs s f = (undriven_field rs (record_in rs s) f, UndrivenOperand (slot_at s) f)
 
 abbrev pub loop_stage : List Record → ℕ → Stage
 loop_stage rs s = (on_loop rs s, Loop (slot_at s))
@@ -95,7 +93,7 @@ bit_stages rs s = bit_stage rs s ∷ []
 
 -- 7 of one record: the first field that fails, in the order a, b, c (request 2026-06)
 unfoldable pub operand_stages : List Record → ℕ → List Stage
-operand_stages rs s = operand_stage rs s field.A ∷ operand_stage rs s field.B ∷ operand_stage rs s field.C ∷ []
+operand_stages rs s = operand_stage rs s 1 ∷ operand_stage rs s 2 ∷ operand_stage rs s 3 ∷ []
 
 -- 4 to 7 of one record
 unfoldable pub record_stages : List Record → ℕ → List Stage

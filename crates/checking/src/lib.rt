@@ -91,13 +91,13 @@ fn operand_verdict(t: &[u8], s: Slot, r: Record) -> Result<(), Refusal>
     ensures { result ≡ first_of (operand_stages (records_of t.now) s.0) }
 {
     if undriven_field(t, r, Field::A) {
-        return Err(Refusal::UndrivenOperand(s, Field::A));
+        return Err(Refusal::UndrivenOperand(s, Field::A as u32));
     }
     if undriven_field(t, r, Field::B) {
-        return Err(Refusal::UndrivenOperand(s, Field::B));
+        return Err(Refusal::UndrivenOperand(s, Field::B as u32));
     }
     if undriven_field(t, r, Field::C) {
-        return Err(Refusal::UndrivenOperand(s, Field::C));
+        return Err(Refusal::UndrivenOperand(s, Field::C as u32));
     }
     Ok(())
 }

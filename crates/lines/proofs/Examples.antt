@@ -6,7 +6,6 @@ use Rattle.cell.specs.Bytes.{word16, word32, bytes16, bytes32}
 use Rattle.cell.specs.Records.{record_of, record_at, bytes_of}
 use Rattle.basics.specs.Lists.{joined}
 use Rattle.netlist.specs.Netlist.{ticket_of}
-use Rattle.kinds.specs.declared.Field.TheVariants as field
 use Rattle.refusals.specs.declared.Refusal.TheVariants.{UndrivenOperand, Loop}
 use Rattle.lines.specs.Ascii.{ascii}
 use Rattle.lines.specs.Decimal.{digits_in, decimal}
@@ -28,6 +27,6 @@ unfolding refusal_line spaced decimal digits_in
 refusal-printed = refl
 
 -- request 2026-06: after a 7 its field stands third
-undriven-printed : refusal_line (UndrivenOperand (slot_at 37) field.B) ≡ ascii "refused 7 37 2\n"
+undriven-printed : refusal_line (UndrivenOperand (slot_at 37) 2) ≡ ascii "refused 7 37 2\n"
 unfolding refusal_line spaced decimal digits_in
 undriven-printed = refl

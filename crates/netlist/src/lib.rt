@@ -14,6 +14,7 @@ pub mod area;
 pub mod fields;
 
 // `Cell::has_effects`: inputs and outputs, of the kinds that a ticket has.
+#[tactic(auto, unfolding(crate::specs::Shape::has_effects))]
 pub fn has_effects(c: Cell) -> bool
     ensures { result ≡ has_effects c }
 {

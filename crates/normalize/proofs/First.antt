@@ -47,3 +47,6 @@ failed t x r o p test h e = rw (sym test ∙ h) e
 
 -- what the code's comparisons answer, as the tests of the definitions
 pub ruleset tests = (control_eq-is, net_gt-is, control_gt-is)
+
+-- rules one after another, as the code has them
+pub ruleset in_turn = (first, second, held, failed)

@@ -23,19 +23,26 @@ impl From<[u8; 8]> for Sums {
 }
 
 impl Sums {
+    // Both in one pass.
     pub(crate) fn of(bytes: &[u8]) -> Sums {
+        let start = Sums {
+            first: 2166136261,
+            second: 2166136261,
+        };
+        bytes.iter().fold(start, |sums, byte| sums.with(*byte))
+    }
+
+    fn with(self, byte: u8) -> Sums {
         Sums {
-            first: sum(bytes, 16777619),
-            second: sum(bytes, 22695477),
+            first: sum_with(self.first, 16777619, byte),
+            second: sum_with(self.second, 22695477, byte),
         }
     }
 }
 
 // Modulo 2^32.
-fn sum(bytes: &[u8], times: u32) -> u32 {
-    bytes.iter().fold(2166136261, |sum: u32, byte| {
-        sum.wrapping_mul(times)
-            .wrapping_add(u32::from(*byte))
-            .wrapping_add(1)
-    })
+fn sum_with(sum: u32, times: u32, byte: u8) -> u32 {
+    sum.wrapping_mul(times)
+        .wrapping_add(u32::from(byte))
+        .wrapping_add(1)
 }

@@ -1,10 +1,10 @@
 // The lister's reader: a ticket's bytes and a place in them, an iterator over the records with their slots.
 #![tactic(auto)]
 
-ghost use Rattle.std.specs.Prelude.{◌≡◌, ◌-◌, ◌/◌, ◌<◌, length};
+ghost use Rattle.std.specs.Prelude.{◌≡◌, ◌+◌, ◌-◌, ◌/◌, ◌<◌, ◌^◌, length};
 ghost use Rattle.std.specs.Iterator.{at_most};
 ghost use Rattle.cell.specs.Records.{record_at};
-ghost use Rattle.reader.specs.Read.{standing, Reads};
+ghost use Rattle.reader.specs.Read.{standing, following, Reads};
 
 use cell::Record;
 use value::Slot;
@@ -33,6 +33,17 @@ impl<'a> Reader<'a> {
     {
         Reader { bytes, at: 0 }
     }
+
+    // The reader at the next slot, whether or not there is a record where it stands.
+    pub fn next(self) -> Reader<'a>
+        requires { self.at + 1 < 2 ^ 64 }
+        ensures { result ≡ following self.entry }
+    {
+        Reader {
+            bytes: self.bytes,
+            at: self.at + 1,
+        }
+    }
 }
 
 impl<'a> Iterator for Reader<'a> {
@@ -48,7 +59,7 @@ impl<'a> Iterator for Reader<'a> {
         if cell::records(self.bytes) <= s {
             return None;
         }
-        self.at += 1;
+        *self = Reader::next(*self);
         Some((s, record_of(self.bytes, s)))
     }
 }

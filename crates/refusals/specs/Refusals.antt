@@ -1,6 +1,5 @@
 -- Refusals (paper, "When a ticket is turned away"): their numbers, places and fields, and which one is given. Assumes nothing: these are definitions.
 use Rattle.std.specs.Prelude.{Bool, cond, List, [], ◌∷◌, ◌++◌, ℕ, zero, suc, Ok, Err, Result}
-use Rattle.kinds.specs.Kinds.{field_number}
 use Rattle.refusals.specs.declared.Refusal.{Refusal}
 use Rattle.refusals.specs.declared.Refusal.TheVariants.{ShortWork, PartialRecord, TooManyRecords, UnknownKind, ReservedField, BitOutOfSequence, UndrivenOperand, Loop, SlotsExhausted, LevelCount, LevelValue, ShortReply}
 use Rattle.refusals.specs.declared.Figures.{Figures}
@@ -17,7 +16,7 @@ figures TooManyRecords = figures_at 3 0 0  -- overlong
 figures (UnknownKind s) = figures_at 4 s.0 0  -- unknown kind
 figures (ReservedField s) = figures_at 5 s.0 0  -- spoilt field
 figures (BitOutOfSequence s) = figures_at 6 s.0 0  -- broken bus
-figures (UndrivenOperand s f) = figures_at 7 s.0 (field_number f)  -- loose wire
+figures (UndrivenOperand s f) = figures_at 7 s.0 f  -- loose wire
 figures (Loop s) = figures_at 8 s.0 0  -- loop
 figures SlotsExhausted = figures_at 9 0 0  -- bench full
 figures LevelCount = figures_at 10 0 0  -- wrong stimulus

@@ -4,7 +4,6 @@
 ghost use Rattle.std.specs.Prelude.{◌≡◌};
 ghost use Rattle.refusals.specs.Refusals.{figures_at, figures};
 
-use kinds::Field;
 use value::Slot;
 
 // Why a call turns its input away.
@@ -16,8 +15,8 @@ pub enum Refusal {
     UnknownKind(Slot),
     ReservedField(Slot),
     BitOutOfSequence(Slot),
-    // The record, and which of its fields fails.
-    UndrivenOperand(Slot, Field),
+    // The record, and which of its fields fails, by its number: a `Field` would be a narrower parameter of all that takes a refusal.
+    UndrivenOperand(Slot, u32),
     Loop(Slot),
     SlotsExhausted,
     LevelCount,
@@ -56,7 +55,7 @@ impl From<Refusal> for Figures {
             Refusal::UnknownKind(s) => numbered(4, s.0, 0),
             Refusal::ReservedField(s) => numbered(5, s.0, 0),
             Refusal::BitOutOfSequence(s) => numbered(6, s.0, 0),
-            Refusal::UndrivenOperand(s, f) => numbered(7, s.0, f as u32),
+            Refusal::UndrivenOperand(s, f) => numbered(7, s.0, f),
             Refusal::Loop(s) => numbered(8, s.0, 0),
             Refusal::SlotsExhausted => numbered(9, 0, 0),
             Refusal::LevelCount => numbered(10, 0, 0),

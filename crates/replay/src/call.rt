@@ -3,7 +3,7 @@ use crate::item::{Fault, Item};
 use oracle_list::Files;
 use std::io;
 use std::io::Read;
-use trial::{Compact, Merge, Replying, Rewrite};
+use trial::{Compact, Lent, Merge, Replying, Rewrite};
 
 pub trait Call: Copy {
     // Of the file that has what is expected.
@@ -64,7 +64,11 @@ impl<C: Written> Call for C {
         files: &mut Files<F>,
         space: &mut [u32],
     ) -> Result<(), Fault> {
-        item.replying(self, item.slices.reply, &mut files.expected, space)
+        let lent = Lent {
+            words: item.slices.work,
+            bytes: item.slices.reply,
+        };
+        item.replying(self, lent, &mut files.expected, space)
     }
 }
 

@@ -5,7 +5,7 @@ use oracle_list::{Files, ListError, Slices};
 use outcome::{Expected, Figures, Mismatch, Sums};
 use std::io::Read;
 use thiserror::Error;
-use trial::{Lent, Levels, Replying};
+use trial::{Lent, Levels, Loan, Replying};
 
 // Why a ticket is not as expected.
 #[derive(Clone, Copy, Debug, Error)]
@@ -26,11 +26,11 @@ pub struct Item<'a> {
 
 impl<'a> Item<'a> {
     // The work slice, lent from a space.
-    fn work_in(self, space: &mut [u32]) -> Lent<u32>
+    fn work_in(self, space: &mut [u32]) -> Loan<u32>
         ensures len { result.len ≡ self.entry.slices.work }
         ensures seed { result.seed ≡ self.entry.seed }
     {
-        Lent {
+        Loan {
             space,
             len: self.slices.work,
             seed: self.seed,
@@ -42,22 +42,26 @@ impl<'a> Item<'a> {
         Ok(trial::check(self.ticket, self.work_in(space), figures)?)
     }
 
-    // A call that writes a reply, with so many bytes for it.
+    // A call that writes a reply, with so much lent.
     pub fn replying<C: Replying, F: Read>(
         self,
         call: C,
-        len: usize,
+        lent: Lent,
         expected: &mut F,
         space: &mut [u32],
     ) -> Result<(), Fault> {
         let figures = Figures::from(oracle_list::read_entry(expected)?);
         let sums = Sums::from(oracle_list::read_entry(expected)?);
-        let work = self.work_in(space);
+        let work = Loan {
+            space,
+            len: lent.words,
+            seed: self.seed,
+        };
         // A fixed buffer: with `Vec` the run could fail for want of memory.
         let mut bytes = [0; 17000];
-        let reply = Lent {
+        let reply = Loan {
             space: &mut bytes,
-            len,
+            len: lent.bytes,
             seed: self.seed,
         };
         let expected = Expected { figures, sums };
@@ -77,8 +81,11 @@ impl<'a> Item<'a> {
         // A fixed buffer, as above.
         let mut buffer = [0; 1024];
         let levels = oracle_list::next_levels(&mut files.stimuli, &mut buffer)?;
-        let len = self.slices.level_reply;
-        self.replying(Levels { levels }, len, &mut files.expected, space)
+        let lent = Lent {
+            words: self.slices.work,
+            bytes: self.slices.level_reply,
+        };
+        self.replying(Levels { levels }, lent, &mut files.expected, space)
     }
 }
 

@@ -30,13 +30,12 @@ fn run<C: Call, P: Print, F: Read>(
     rt: &P,
     call: C,
     files: &mut Files<F>,
+    buffer: &mut [u8],
+    space: &mut [u32],
     tally: &mut Tally,
 ) -> Result<(), ListError> {
-    // Fixed buffers, as in `item`: with `Vec` the run could fail for want of memory.
-    let mut buffer = [0; 16384];
-    let mut space = [0; 17000];
     for seed in 0..u32::MAX {
-        let Some(ticket) = oracle_list::next_ticket(&mut files.tickets, &mut buffer)? else {
+        let Some(ticket) = oracle_list::next_ticket(&mut files.tickets, buffer)? else {
             return ended(call, files);
         };
         let slices = Slices::from(oracle_list::read_entry(&mut files.slices)?);
@@ -45,7 +44,7 @@ fn run<C: Call, P: Print, F: Read>(
             slices,
             seed,
         };
-        let tried = call.try_on(item, files, &mut space);
+        let tried = call.try_on(item, files, space);
         match tried {
             Ok(()) => {}
             Err(Fault::Differs(mismatch)) => {
@@ -58,10 +57,15 @@ fn run<C: Call, P: Print, F: Read>(
     Ok(())
 }
 
-fn replay<C: Call>(rt: &(impl rt::Files + Print), call: C) -> io::Result<()> {
+fn replay<C: Call>(
+    rt: &(impl rt::Files + Print),
+    call: C,
+    buffer: &mut [u8],
+    space: &mut [u32],
+) -> io::Result<()> {
     let mut files = oracle_list::open(rt, C::NAME.as_bytes())?;
     let mut tally = Tally::new();
-    match run(rt, call, &mut files, &mut tally) {
+    match run(rt, call, &mut files, buffer, space, &mut tally) {
         Ok(()) => {}
         Err(ListError::Io(error)) => return Err(error),
         Err(ListError::Torn) => {
@@ -79,9 +83,12 @@ fn replay<C: Call>(rt: &(impl rt::Files + Print), call: C) -> io::Result<()> {
 }
 
 fn main(rt: HostRuntime) -> io::Result<()> {
-    replay(&rt, Check)?;
-    replay(&rt, Compact)?;
-    replay(&rt, Merge)?;
-    replay(&rt, Rewrite)?;
-    replay(&rt, Levels)
+    // Fixed buffers, as in `item`: with `Vec` the run could fail for want of memory. Here, so that the stack holds them once.
+    let mut buffer = [0; 16384];
+    let mut space = [0; 17000];
+    replay(&rt, Check, &mut buffer, &mut space)?;
+    replay(&rt, Compact, &mut buffer, &mut space)?;
+    replay(&rt, Merge, &mut buffer, &mut space)?;
+    replay(&rt, Rewrite, &mut buffer, &mut space)?;
+    replay(&rt, Levels, &mut buffer, &mut space)
 }

@@ -609,3 +609,10 @@ module _ (x : Extent) (ws : List ℕ) (c : Cell) (y : Extent) (ws' : List ℕ) (
               (v.on x'' ws''' (formed (processed.Cell f) q) (process-form y z ws' ws'' d v.ready p s f e x'' ws''' q h));
           same = i ∙ v.same;
         }
+
+-- on Full the answer says nothing of the extent
+pub process_back : (x x' y : Extent) (ws ws' : List ℕ) (c : Cell) (e : Full) → Processes x x' ws ws' c (Err e) → Processes x y ws ws' c (Err e)
+process_back x x' y ws ws' c e s = record { said = s.said }
+
+pub add_back : (x x' y : Extent) (ws ws' : List ℕ) (c : Cell) (e : Full) → Adds x x' ws ws' c (Err e) → Adds x y ws ws' c (Err e)
+add_back x x' y ws ws' c e s = record { said = s.said }

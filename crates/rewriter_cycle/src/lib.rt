@@ -3,7 +3,7 @@
 // add a cell call the adder.
 #![tactic(auto)]
 
-ghost use Rattle.std.specs.Prelude.{◌≡◌};
+ghost use Rattle.std.specs.Prelude.{◌≡◌, OnErr};
 ghost use Rattle.cell.specs.declared.Cell.TheVariants.{Not, And, Or, Xor, Aig};
 ghost use Rattle.rewriter_cycle.specs.inner.Cycle.{unadded_of, opted, ruled, Ready, Performs, Processes, Adds};
 
@@ -41,7 +41,7 @@ fn rewrite_and(work: &mut [u32], x: &mut Extent, a: Net, b: Net) -> Result<Proce
     requires { Ready x.old work.old (And a b) }
     ensures { Performs x.old x.new work.old work.new (opted x.old work.old (And a b)) result }
 {
-    let n = add_cell(work, x, Cell::Aig(ControlNet::Pos(a), ControlNet::Pos(b)))?;
+    let n = add(work, x, Cell::Aig(ControlNet::Pos(a), ControlNet::Pos(b)))?;
     Ok(Processed::Value(n))
 }
 
@@ -51,8 +51,8 @@ fn rewrite_or(work: &mut [u32], x: &mut Extent, a: Net, b: Net) -> Result<Proces
     requires { Ready x.old work.old (Or a b) }
     ensures { Performs x.old x.new work.old work.new (opted x.old work.old (Or a b)) result }
 {
-    let n = add_cell(work, x, Cell::Aig(ControlNet::Neg(a), ControlNet::Neg(b)))?;
-    let inverse = add_cell(work, x, Cell::Not(n))?;
+    let n = add(work, x, Cell::Aig(ControlNet::Neg(a), ControlNet::Neg(b)))?;
+    let inverse = add(work, x, Cell::Not(n))?;
     Ok(Processed::Value(inverse))
 }
 
@@ -77,7 +77,7 @@ fn rewrite_xor(work: &mut [u32], x: &mut Extent, a: Net, b: Net) -> Result<Proce
         Some(Change::Value(n)) => Ok(Processed::Value(n)),
         Some(Change::Form(c)) => Ok(Processed::Cell(c)),
         Some(Change::NotOf(c)) => {
-            let n = add_cell(work, x, c)?;
+            let n = add(work, x, c)?;
             Ok(Processed::Cell(Cell::Not(n)))
         }
         // Never: no test of this arm asks for the net of a cell.
@@ -111,7 +111,7 @@ fn rewrite_aig(
         Some(Change::Value(n)) => Ok(Processed::Value(n)),
         Some(Change::Form(c)) => Ok(Processed::Cell(c)),
         Some(Change::NotOf(c)) => {
-            let n = add_cell(work, x, c)?;
+            let n = add(work, x, c)?;
             Ok(Processed::Cell(Cell::Not(n)))
         }
         // Never: no test of this arm asks for the net of a cell.
@@ -156,7 +156,7 @@ fn rules(work: &mut [u32], x: &mut Extent, c: Cell) -> Result<Processed, Full>
 
 // `Rewriter::process_cell`: another form goes round again, in a loop that counts nothing; where no rule applies the cache is asked.
 #[cycle(passes)]
-pub fn process_cell(work: &mut [u32], x: &mut Extent, c: Cell) -> Result<Processed, Full>
+fn process(work: &mut [u32], x: &mut Extent, c: Cell) -> Result<Processed, Full>
     requires { Ready x.old work.old c }
     ensures { Processes x.old x.new work.old work.new c result }
 {
@@ -180,13 +180,47 @@ pub fn process_cell(work: &mut [u32], x: &mut Extent, c: Cell) -> Result<Process
 
 // `Rewriter::add_cell`
 #[cycle(passes)]
-pub fn add_cell(work: &mut [u32], x: &mut Extent, c: Cell) -> Result<Net, Full>
+fn add(work: &mut [u32], x: &mut Extent, c: Cell) -> Result<Net, Full>
     requires { Ready x.old work.old c }
     ensures { Adds x.old x.new work.old work.new c result }
 {
-    match process_cell(work, x, c)? {
+    match process(work, x, c)? {
         Processed::None => rewriter_state::enter(work, x, c),
         Processed::Cell(d) => rewriter_state::enter(work, x, d),
         Processed::Value(n) => Ok(n),
+    }
+}
+
+// `process`, from outside of the cycle: on Full the extent is as it was, though cells may have been added on the way.
+#[tactic(auto, using(crate::proofs::Passes::process_back))]
+pub fn process_cell(work: &mut [u32], x: &mut Extent, c: Cell) -> Result<Processed, Full>
+    requires { Ready x.old work.old c }
+    ensures processed { Processes x.old x.new work.old work.new c result }
+    ensures full { OnErr result (x.new ≡ x.old) }
+{
+    let begun = *x;
+    match process(work, x, c) {
+        Ok(p) => Ok(p),
+        Err(full) => {
+            *x = begun;
+            Err(full)
+        }
+    }
+}
+
+// `add`, from outside of the cycle: on Full the extent is as it was.
+#[tactic(auto, using(crate::proofs::Passes::add_back))]
+pub fn add_cell(work: &mut [u32], x: &mut Extent, c: Cell) -> Result<Net, Full>
+    requires { Ready x.old work.old c }
+    ensures added { Adds x.old x.new work.old work.new c result }
+    ensures full { OnErr result (x.new ≡ x.old) }
+{
+    let before = *x;
+    match add(work, x, c) {
+        Ok(n) => Ok(n),
+        Err(full) => {
+            *x = before;
+            Err(full)
+        }
     }
 }

@@ -2,7 +2,7 @@
 // slice.
 #![tactic(auto)]
 
-ghost use Rattle.std.specs.Prelude.{◌≡◌, ◌+◌, ◌≤◌, ◌<◌, length, set};
+ghost use Rattle.std.specs.Prelude.{◌≡◌, ◌+◌, ◌≤◌, ◌<◌, length, set, OnErr};
 ghost use Rattle.netlist.specs.inner.Areas.{words_in};
 ghost use Rattle.design.specs.Queue.{find_new_cell};
 ghost use Rattle.numberer.specs.Numberer.{seek};
@@ -117,7 +117,8 @@ fn stamp(work: &mut [u32], x: &mut Extent, s: Slot)
 // Adds a cell in the next slot, if there is one, and gives its net.
 pub fn enter(work: &mut [u32], x: &mut Extent, c: Cell) -> Result<Net, Full>
     requires { Held x.old work.old }
-    ensures { Enters x.old x.new work.old work.new c result }
+    ensures entered { Enters x.old x.new work.old work.new c result }
+    ensures full { OnErr result (x.new ≡ x.old) }
 {
     if x.slots == 1024 {
         return Err(Full);

@@ -12,7 +12,6 @@ use Rattle.cell.specs.declared.Record.{Record}
 use Rattle.refusals.specs.declared.Refusal.{Refusal}
 use Rattle.refusals.specs.declared.Refusal.TheVariants.{ShortWork, PartialRecord, TooManyRecords, UnknownKind, ReservedField, BitOutOfSequence, UndrivenOperand, Loop, SlotsExhausted, LevelCount, LevelValue, ShortReply}
 use Rattle.value.specs.declared.Slot.{Slot}
-use Rattle.kinds.specs.declared.Field.{Field}
 use Rattle.refusals.specs.declared.Figures.{Figures}
 use Rattle.refusals.specs.Refusals.{figures}
 use borrow.Rule.Slice.PartMut.{put_mid}
@@ -97,7 +96,7 @@ module _ (numbers t : List ℕ) (at : ℕ) where
         (puts_then (11 * i) 1 (11 * length numbers + 1) t u (set u n 10) at n (n + 1) (spaced (take i numbers)) (10 ∷ []) (omega (arith, s.upto)) s.puts (put_byte u n 10))
 
 -- 7 is the number of one refusal alone
-not_7 : (x : Refusal) → ((s : Slot) (d : Field) → x ≡ UndrivenOperand s d → ⊥) → (figures x).number ≡ 7 → ⊥
+not_7 : (x : Refusal) → ((s : Slot) (d : ℕ) → x ≡ UndrivenOperand s d → ⊥) → (figures x).number ≡ 7 → ⊥
 not_7 ShortWork h i = omega (arith, i)
 not_7 PartialRecord h i = omega (arith, i)
 not_7 TooManyRecords h i = omega (arith, i)
@@ -128,8 +127,8 @@ module _ (t u v : List ℕ) (at m n : ℕ) where
       (puts_then 7 k 80 t u v at m n refused_word (to_end ns) (omega arith) p q)
 
   module _ (x : Refusal) (f : Figures) (e : f ≡ figures x) (p : Puts 7 t u at refused_word m) where
-    pub undriven-put : (s : Slot) (d : Field) → x ≡ UndrivenOperand s d → Puts 34 u v m (to_end (f.number ∷ f.place ∷ f.field ∷ [])) n → Puts 80 t v at (refusal_line x) n
+    pub undriven-put : (s : Slot) (d : ℕ) → x ≡ UndrivenOperand s d → Puts 34 u v m (to_end (f.number ∷ f.place ∷ f.field ∷ [])) n → Puts 80 t v at (refusal_line x) n
     undriven-put s d h q = refusal-put x f e 34 (omega arith) (f.number ∷ f.place ∷ f.field ∷ []) (rw (eq-eqb f.number 7 (ap (λ g. g.number) e ∙ ap (λ y. (figures y).number) h))) p q
 
-    pub other-put : ((s : Slot) (d : Field) → x ≡ UndrivenOperand s d → ⊥) → Puts 23 u v m (to_end (f.number ∷ f.place ∷ [])) n → Puts 80 t v at (refusal_line x) n
+    pub other-put : ((s : Slot) (d : ℕ) → x ≡ UndrivenOperand s d → ⊥) → Puts 23 u v m (to_end (f.number ∷ f.place ∷ [])) n → Puts 80 t v at (refusal_line x) n
     other-put h q = refusal-put x f e 23 (omega arith) (f.number ∷ f.place ∷ []) (rw (ne_eqb f.number 7 (λ i. not_7 x h (sym (ap (λ g. g.number) e) ∙ i)))) p q

@@ -5,7 +5,6 @@ use Rattle.value.specs.Value.{slot_at}
 use Rattle.cell.specs.declared.Record.{Record}
 use Rattle.cell.specs.Records.{record_of}
 use Rattle.netlist.specs.Netlist.{ticket_of}
-use Rattle.kinds.specs.declared.Field.TheVariants as field
 use Rattle.refusals.specs.declared.Refusal.{Refusal}
 use Rattle.refusals.specs.declared.Refusal.TheVariants.{ShortWork, PartialRecord, TooManyRecords, UnknownKind, ReservedField, BitOutOfSequence, UndrivenOperand, Loop, SlotsExhausted, LevelCount, LevelValue, ShortReply}
 use Rattle.calls.specs.Work.{cleared}
@@ -167,7 +166,7 @@ refusals =
     ∷ UnknownKind (slot_at 5)
     ∷ ReservedField (slot_at 5)
     ∷ BitOutOfSequence (slot_at 5)
-    ∷ UndrivenOperand (slot_at 5) field.C
+    ∷ UndrivenOperand (slot_at 5) 3
     ∷ Loop (slot_at 5)
     ∷ SlotsExhausted
     ∷ LevelCount

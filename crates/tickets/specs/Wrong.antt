@@ -6,7 +6,6 @@
 use Rattle.std.specs.Prelude.{◌≡◌, not, List, [], ◌∷◌, ◌++◌, map, ℕ, ◌/◌, ltb, length, take}
 use Rattle.cell.specs.declared.Record.{Record}
 use Rattle.cell.specs.Records.{record_of, records_of}
-use Rattle.kinds.specs.declared.Field.TheVariants as field
 use Rattle.refusals.specs.declared.Refusal.TheVariants.{ShortReply}
 use Rattle.refusals.specs.Refusals.{Stage, first_of, slot_by_slot}
 use Rattle.checking.specs.Checking.{kind_stages, field_stages, bit_stages, operand_stage, size_group, loop_group, gate_count}
@@ -71,7 +70,7 @@ charges_for_inverters t = (check_figures (answer_by (check_verdict words t) (cou
 
 -- checks, and tests the fields of a record from c to a (request 2026-06 has it from a to c)
 abbrev pub from_the_last : List Record → ℕ → List Stage
-from_the_last rs s = kind_stages rs s ++ field_stages rs s ++ bit_stages rs s ++ (operand_stage rs s field.C ∷ operand_stage rs s field.B ∷ operand_stage rs s field.A ∷ [])
+from_the_last rs s = kind_stages rs s ++ field_stages rs s ++ bit_stages rs s ++ (operand_stage rs s 3 ∷ operand_stage rs s 2 ∷ operand_stage rs s 1 ∷ [])
 
 abbrev pub tests_from_the_last : Program
 tests_from_the_last t =

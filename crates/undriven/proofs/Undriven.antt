@@ -7,18 +7,15 @@ use native.Mathlib.Omega.{arith}
 use lib.ListN.{length}
 use Rattle.std.specs.Prelude.{Ok, Err}
 use Rattle.value.specs.Value.{slot_at}
-use Rattle.kinds.specs.declared.Field.{Field}
-use Rattle.kinds.specs.declared.Field.TheVariants as field
-use Rattle.kinds.specs.Kinds.{field_number}
 use Rattle.cell.specs.declared.Record.{Record}
-use Rattle.cell.specs.Records.{records_of, record_in}
+use Rattle.cell.specs.Records.{records_of}
 use Rattle.refusals.specs.declared.Refusal.{Refusal}
 use Rattle.refusals.specs.declared.Refusal.TheVariants.{UndrivenOperand}
 use Rattle.refusals.specs.Refusals.{Stage, figures, first_of, Verdict}
 use Rattle.refusals.proofs.Stages.{earlier-decides, passes-both, refused-by, slots-refused, slots-exactly, Lowest, slots-lowest, EachGives, both-give, given-such, Within, each-imp}
 use Rattle.refusals.proofs.Fields.{field-elsewhere}
 use Rattle.checking.specs.Checking.{kind_stages, field_stages, bit_stages, operand_stages, record_stages, record_group, loop_group, size_group, netlist_stages, check_stages, gate_count}
-use Rattle.checking.proofs.Groups.{failing-field, kind-exactly, field-exactly, bit-exactly, names-least, NamesField, group-names, upto-fields, upto-bits, operands-decide, records-decide, sizes-passed, tests-give, loops-give, sizes-give}
+use Rattle.checking.proofs.Groups.{kind-exactly, field-exactly, bit-exactly, names-least, NamesField, group-names, upto-fields, upto-bits, operands-decide, records-decide, sizes-passed, tests-give, loops-give, sizes-give}
 use Rattle.merge.specs.Merge.{merge}
 use Rattle.rewrite.specs.Rewriter.{Lookup}
 use Rattle.calls.specs.Answers.{Told, refused, check_figures, answer_by, written_figures, merged_figures, merged_of, counts_of}
@@ -32,7 +29,7 @@ module _ (words : ℕ) (t : List ℕ) where
   rs = records_of t
 
   -- the refusal that is given there
-  given-there : (s : ℕ) (f : Field) → UndrivenAt words t s (field_number f) → first_of (check_stages words t) ≡ Err (UndrivenOperand (slot_at s) f)
+  given-there : (s f : ℕ) → UndrivenAt words t s f → first_of (check_stages words t) ≡ Err (UndrivenOperand (slot_at s) f)
   unfolding record_group
   given-there s f u =
       let x : Refusal = UndrivenOperand (slot_at s) f in
@@ -92,22 +89,9 @@ module _ (words : ℕ) (t : List ℕ) where
         (λ p. by-netlist p.0 p.1) (refused-by (size_group words t) (netlist_stages rs) x e)
 
   -- THE LAW of checking
-  pub undriven-exactly : (s : ℕ) (f : Field) → (check_verdict words t ≡ Err (UndrivenOperand (slot_at s) f)) ↔ UndrivenAt words t s (field_number f)
+  pub undriven-exactly : (s f : ℕ) → (check_verdict words t ≡ Err (UndrivenOperand (slot_at s) f)) ↔ UndrivenAt words t s f
   unfolding check_verdict
   undriven-exactly s f = (seven-there (UndrivenOperand (slot_at s) f) refl, given-there s f)
-
-  -- so by the number of the field: one that names no field is given nowhere
-  abbrev pub Given7 : ℕ → ℕ → Type 0
-  Given7 s f = (g : Field) × (field_number g ≡ f) × (check_verdict words t ≡ Err (UndrivenOperand (slot_at s) g))
-
-  pub undriven-by-number : (s f : ℕ) → Given7 s f ↔ UndrivenAt words t s f
-  undriven-by-number s f = (there, λ u. ⊎_elim (by u field.A) (⊎_elim (by u field.B) (by u field.C)) (failing-field rs (record_in rs s) f u.fails))
-    where
-      there : Given7 s f → UndrivenAt words t s f
-      there p = subst (UndrivenAt words t s) p.1 ((undriven-exactly s p.0).0 p.2)
-
-      by : UndrivenAt words t s f → (g : Field) → f ≡ field_number g → Given7 s f
-      by u g q = (g, sym q, (undriven-exactly s g).1 (subst (UndrivenAt words t s) q u))
 
   -- ---- a verdict that gives 7 just where checking does, in what is told
   record Follows (v : Verdict) : Type 0 where
@@ -126,13 +110,9 @@ module _ (words : ℕ) (t : List ℕ) where
         subst (λ (k : ℕ). UndrivenAt words t k f) r.1 (subst (λ (g : ℕ). UndrivenAt words t (figures x).place g) r.2 u)
 
     there-told : (v : Verdict) → Follows v → (s f : ℕ) → UndrivenAt words t s f → Seven (told v) s f
-    there-told v w s f u = ⊎_elim (by field.A) (⊎_elim (by field.B) (by field.C)) (failing-field rs (record_in rs s) f u.fails)
-      where
-        by : (g : Field) → f ≡ field_number g → Seven (told v) s f
-        by g q =
-            let x : Refusal = UndrivenOperand (slot_at s) g in
-            let e : told v ≡ refused x = ap told (w.as_check x (given-there s g (subst (λ (k : ℕ). UndrivenAt words t s k) q u))) ∙ refusing x in
-            (ap (λ (a : Told). a.number) e, ap (λ (a : Told). a.place) e, ap (λ (a : Told). a.field) e ∙ sym q)
+    there-told v w s f u =
+        let e : told v ≡ refused (UndrivenOperand (slot_at s) f) = ap told (w.as_check _ (given-there s f u)) ∙ refusing (UndrivenOperand (slot_at s) f) in
+        (ap (λ (a : Told). a.number) e, ap (λ (a : Told). a.place) e, ap (λ (a : Told). a.field) e)
 
     other-field : (v : Verdict) → ((told v).number ≡ 7 → ⊥) → (told v).field ≡ 0
     other-field (Ok u) h = zero_field

@@ -16,7 +16,7 @@ use normalize::Change;
 use value::{ControlNet, Net};
 
 // (aa & ab) ^ b
-#[tactic(auto, using(normalize::proofs::First::tests), unfolding(normalize::specs::Outcomes::first_change, aig::specs::Aig::and_xor, value::specs::Value::eq_control, value::specs::Value::eq_net))]
+#[tactic(auto, using(normalize::proofs::First::tests, normalize::proofs::First::in_turn), unfolding(aig::specs::Aig::and_xor, value::specs::Value::eq_control, value::specs::Value::eq_net))]
 fn and_xor(b: Net, aa: ControlNet, ab: ControlNet) -> Option<Change>
     ensures { result ≡ and_xor b aa ab }
 {
@@ -42,7 +42,7 @@ fn common(aa: Net, ab: Net, ba: Net, bb: Net) -> Option<Change>
     None
 }
 
-#[tactic(auto, unfolding(normalize::specs::Outcomes::first_change, aig::specs::Aig::if_xor, aig::specs::inner::Sources::xor_in))]
+#[tactic(auto, using(normalize::proofs::First::in_turn), unfolding(aig::specs::Aig::if_xor, aig::specs::inner::Sources::xor_in))]
 fn xor_with_xor(src_b: Option<Cell>, aa: Net, ab: Net) -> Option<Change>
     ensures { result ≡ if_xor src_b (either_way (λ ba bb. given (eq_net aa ba) (Some (Form (Xor ab bb))))) }
 {
@@ -51,7 +51,7 @@ fn xor_with_xor(src_b: Option<Cell>, aa: Net, ab: Net) -> Option<Change>
 }
 
 // (aa ^ ab) ^ b
-#[tactic(auto, unfolding(normalize::specs::Outcomes::first_change, aig::specs::Aig::xor_xor, value::specs::Value::eq_net))]
+#[tactic(auto, using(normalize::proofs::First::in_turn), unfolding(aig::specs::Aig::xor_xor, value::specs::Value::eq_net))]
 fn xor_xor(src_b: Option<Cell>, b: Net, aa: Net, ab: Net) -> Option<Change>
     ensures { result ≡ xor_xor src_b b aa ab }
 {
@@ -63,7 +63,7 @@ fn xor_xor(src_b: Option<Cell>, b: Net, aa: Net, ab: Net) -> Option<Change>
 }
 
 // By the kind of the cell that a is of. xor-not: ~v ^ b -> ~(v ^ b).
-#[tactic(auto, unfolding(normalize::specs::Outcomes::first_change, aig::specs::Aig::if_not, aig::specs::Aig::if_aig, aig::specs::Aig::if_xor))]
+#[tactic(auto, using(normalize::proofs::First::in_turn), unfolding(aig::specs::Aig::if_not, aig::specs::Aig::if_aig, aig::specs::Aig::if_xor))]
 fn xor_of_gate(src_a: Option<Cell>, src_b: Option<Cell>, b: Net) -> Option<Change>
     ensures { result ≡ (if_not src_a (λ v. Some (NotOf (Xor v b))) or_else if_aig src_a (either_way (and_xor b)) or_else if_xor src_a (either_way (xor_xor src_b b))) }
 {
@@ -75,7 +75,7 @@ fn xor_of_gate(src_a: Option<Cell>, src_b: Option<Cell>, b: Net) -> Option<Chang
     }
 }
 
-#[tactic(auto, unfolding(normalize::specs::Outcomes::first_change, aig::specs::Aig::xor_order, value::specs::Value::eq_net))]
+#[tactic(auto, using(normalize::proofs::First::in_turn), unfolding(aig::specs::Aig::xor_order, value::specs::Value::eq_net))]
 fn xor_order(src_a: Option<Cell>, src_b: Option<Cell>, a: Net, b: Net) -> Option<Change>
     ensures { result ≡ xor_order src_a src_b a b }
 {
@@ -99,7 +99,7 @@ fn xor_order(src_a: Option<Cell>, src_b: Option<Cell>, a: Net, b: Net) -> Option
 }
 
 // In both orders of the operands, as `aig_rule`.
-#[tactic(auto, unfolding(normalize::specs::Outcomes::first_change, aig::specs::Aig::xor_rule))]
+#[tactic(auto, using(normalize::proofs::First::in_turn), unfolding(aig::specs::Aig::xor_rule))]
 pub fn xor_rule(src1: Option<Cell>, src2: Option<Cell>, net1: Net, net2: Net) -> Option<Change>
     ensures { result ≡ xor_rule src1 src2 net1 net2 }
 {

@@ -4,26 +4,26 @@ use Rattle.rewriter_cycle.proofs.Arms.{aig-no-add, aig-no-both, xor-no-add, xor-
 use Rattle.rewriter_cycle.proofs.Passes.{processed-held, add_none, add-cell, add-value, add-full, decided, add-ready, add-falls, performs-add, performs-add-full, not-ready, not-falls, performs-not, both-ready, both-falls, both-performs-full, inverse-ready, inverse-falls, performs-both, inverse-performs-full, and_is, or_is, not-performs, other-performs, ruled-value, ruled-form, ruled-opted, forms-full, forms-held, forms-found, forms-new, forms-value, forms-less, forms-on}
 use Rattle.rewriter_cycle.proofs.+passes.Goals as goal
 
-pub add_cell-returns-in_err-process_cell : goal.add_cell-returns-in_err-process_cell
-add_cell-returns-in_err-process_cell t c = let h = c.in_err-process_cell.ensures in let f = c.from_residual.ensures.0 in search add-full
+pub add-returns-in_err-process : goal.add-returns-in_err-process
+add-returns-in_err-process t c = let h = c.in_err-process.ensures in let f = c.from_residual.ensures.0 in search add-full
 
-pub add_cell-enter-requires : goal.add_cell-enter-requires
-add_cell-enter-requires t c = let h = c.in_ok-process_cell.ensures in search processed-held
+pub add-enter-requires : goal.add-enter-requires
+add-enter-requires t c = let h = c.in_ok-process.ensures in search processed-held
 
-pub add_cell-enter-requires-in-Cell : goal.add_cell-enter-requires-in-Cell
-add_cell-enter-requires-in-Cell t c = let h = c.in_ok-process_cell.ensures in search processed-held
+pub add-enter-requires-in-Cell : goal.add-enter-requires-in-Cell
+add-enter-requires-in-Cell t c = let h = c.in_ok-process.ensures in search processed-held
 
-pub add_cell-returns-in-None : goal.add_cell-returns-in-None
-add_cell-returns-in-None t c = let h = c.in_ok-process_cell.ensures in search add_none
+pub add-returns-in-None : goal.add-returns-in-None
+add-returns-in-None t c = let h = c.in_ok-process.ensures in search add_none
 
-pub add_cell-returns-in-Cell : goal.add_cell-returns-in-Cell
-add_cell-returns-in-Cell t c = let h = c.in_ok-process_cell.ensures in search add-cell
+pub add-returns-in-Cell : goal.add-returns-in-Cell
+add-returns-in-Cell t c = let h = c.in_ok-process.ensures in search add-cell
 
-pub add_cell-returns-in-Value : goal.add_cell-returns-in-Value
-add_cell-returns-in-Value t c = let h = c.in_ok-process_cell.ensures in search add-value
+pub add-returns-in-Value : goal.add-returns-in-Value
+add-returns-in-Value t c = let h = c.in_ok-process.ensures in search add-value
 
-pub rewrite_and-add_cell-requires : goal.rewrite_and-add_cell-requires
-rewrite_and-add_cell-requires t c = (search (add-falls, and_is), search (add-ready, and_is))
+pub rewrite_and-add-requires : goal.rewrite_and-add-requires
+rewrite_and-add-requires t c = (search (add-falls, and_is), search (add-ready, and_is))
 
 pub rewrite_and-returns-in_err-n : goal.rewrite_and-returns-in_err-n
 rewrite_and-returns-in_err-n t c = performs-add-full _ _ _ c.requires _ (and_is _ _ _ _) _ _ _ _ c.in_err-n.ensures c.from_residual.ensures.0
@@ -31,14 +31,14 @@ rewrite_and-returns-in_err-n t c = performs-add-full _ _ _ c.requires _ (and_is 
 pub rewrite_and-returns : goal.rewrite_and-returns
 rewrite_and-returns t c = let h = c.in_ok-n.ensures in search (performs-add, and_is)
 
-pub rewrite_or-add_cell-requires : goal.rewrite_or-add_cell-requires
-rewrite_or-add_cell-requires t c = (search (both-falls, or_is), search (both-ready, or_is))
+pub rewrite_or-add-requires : goal.rewrite_or-add-requires
+rewrite_or-add-requires t c = (search (both-falls, or_is), search (both-ready, or_is))
 
 pub rewrite_or-returns-in_err-n : goal.rewrite_or-returns-in_err-n
 rewrite_or-returns-in_err-n t c = both-performs-full _ _ _ c.requires _ (or_is _ _ _ _) _ _ _ _ c.in_err-n.ensures c.from_residual.ensures.0
 
-pub rewrite_or-add_cell-requires-2 : goal.rewrite_or-add_cell-requires-2
-rewrite_or-add_cell-requires-2 t c = let h = c.in_ok-n.ensures in (search (inverse-falls, or_is), search (inverse-ready, or_is))
+pub rewrite_or-add-requires-2 : goal.rewrite_or-add-requires-2
+rewrite_or-add-requires-2 t c = let h = c.in_ok-n.ensures in (search (inverse-falls, or_is), search (inverse-ready, or_is))
 
 pub rewrite_or-returns-in_err-inverse : goal.rewrite_or-returns-in_err-inverse
 rewrite_or-returns-in_err-inverse t c = let g = c.in_ok-n.ensures in let h = c.in_err-inverse.ensures in let f = c.from_residual-in_err-inverse.ensures.0 in search (inverse-performs-full, or_is)
@@ -46,8 +46,8 @@ rewrite_or-returns-in_err-inverse t c = let g = c.in_ok-n.ensures in let h = c.i
 pub rewrite_or-returns : goal.rewrite_or-returns
 rewrite_or-returns t c = let g = c.in_ok-n.ensures in let h = c.in_ok-inverse.ensures in search (performs-both, or_is)
 
-pub rewrite_xor-add_cell-requires : goal.rewrite_xor-add_cell-requires
-rewrite_xor-add_cell-requires t c = (search (not-falls, decided), search (not-ready, decided))
+pub rewrite_xor-add-requires : goal.rewrite_xor-add-requires
+rewrite_xor-add-requires t c = (search (not-falls, decided), search (not-ready, decided))
 
 pub rewrite_xor-returns-in_ok-n-in-Some-NotOf : goal.rewrite_xor-returns-in_ok-n-in-Some-NotOf
 rewrite_xor-returns-in_ok-n-in-Some-NotOf t c = let h = c.in_ok-n-in-Some-NotOf.ensures in search (performs-not, decided)
@@ -58,8 +58,8 @@ rewrite_xor-returns-in-Some-Add t c = absurd (search xor-no-add)
 pub rewrite_xor-returns-in-Some-AddNotOf : goal.rewrite_xor-returns-in-Some-AddNotOf
 rewrite_xor-returns-in-Some-AddNotOf t c = absurd (search xor-no-both)
 
-pub rewrite_aig-add_cell-requires : goal.rewrite_aig-add_cell-requires
-rewrite_aig-add_cell-requires t c = (search (not-falls, decided), search (not-ready, decided))
+pub rewrite_aig-add-requires : goal.rewrite_aig-add-requires
+rewrite_aig-add-requires t c = (search (not-falls, decided), search (not-ready, decided))
 
 pub rewrite_aig-returns-in_ok-n-in-Some-NotOf : goal.rewrite_aig-returns-in_ok-n-in-Some-NotOf
 rewrite_aig-returns-in_ok-n-in-Some-NotOf t c = let h = c.in_ok-n-in-Some-NotOf.ensures in search (performs-not, decided)
@@ -94,23 +94,23 @@ rules-returns-in-Some-NotOf t c = absurd (search normalize-no-not)
 pub rules-returns-in-Some-AddNotOf : goal.rules-returns-in-Some-AddNotOf
 rules-returns-in-Some-AddNotOf t c = absurd (search normalize-no-both)
 
-pub process_cell-returns-in_err-rules : goal.process_cell-returns-in_err-rules
-process_cell-returns-in_err-rules t c = let h = c.in_err-rules.ensures in let f = c.from_residual.ensures.0 in search forms-full
+pub process-returns-in_err-rules : goal.process-returns-in_err-rules
+process-returns-in_err-rules t c = let h = c.in_err-rules.ensures in let f = c.from_residual.ensures.0 in search forms-full
 
-pub process_cell-known-requires : goal.process_cell-known-requires
-process_cell-known-requires t c = let h = c.in_ok-rules.ensures in search forms-held
+pub process-known-requires : goal.process-known-requires
+process-known-requires t c = let h = c.in_ok-rules.ensures in search forms-held
 
-pub process_cell-returns-in-Some : goal.process_cell-returns-in-Some
-process_cell-returns-in-Some t c = let h = c.in_ok-rules.ensures in search forms-found
+pub process-returns-in-Some : goal.process-returns-in-Some
+process-returns-in-Some t c = let h = c.in_ok-rules.ensures in search forms-found
 
-pub process_cell-returns-in-None-known : goal.process_cell-returns-in-None-known
-process_cell-returns-in-None-known t c = let h = c.in_ok-rules.ensures in search forms-new
+pub process-returns-in-None-known : goal.process-returns-in-None-known
+process-returns-in-None-known t c = let h = c.in_ok-rules.ensures in search forms-new
 
-pub process_cell-loop-work-smaller : goal.process_cell-loop-work-smaller
-process_cell-loop-work-smaller t c = let h = c.in_ok-rules.ensures in search forms-less
+pub process-loop-work-smaller : goal.process-loop-work-smaller
+process-loop-work-smaller t c = let h = c.in_ok-rules.ensures in search forms-less
 
-pub process_cell-loop-work-preserved : goal.process_cell-loop-work-preserved
-process_cell-loop-work-preserved t c = let h = c.in_ok-rules.ensures in search forms-on
+pub process-loop-work-preserved : goal.process-loop-work-preserved
+process-loop-work-preserved t c = let h = c.in_ok-rules.ensures in search forms-on
 
-pub process_cell-returns-in-Value : goal.process_cell-returns-in-Value
-process_cell-returns-in-Value t c = let h = c.in_ok-rules.ensures in search forms-value
+pub process-returns-in-Value : goal.process-returns-in-Value
+process-returns-in-Value t c = let h = c.in_ok-rules.ensures in search forms-value

@@ -1,5 +1,5 @@
 -- The proof of the cycle of rules and adder. The number that falls is eight times the weight of the cell at hand, and a rank by the member: 0 for the
--- arms of `SimpleAigOpt`, 1 for `simple_aig_opt`, 2 for `rules`, 3 for `process_cell`, 4 for `add_cell`. Assumes nothing.
+-- arms of `SimpleAigOpt`, 1 for `simple_aig_opt`, 2 for `rules`, 3 for `process`, 4 for `add`. Assumes nothing.
 use Prim.Native.Nat.{◌+◌, ◌*◌}
 use Rattle.cell.specs.declared.Cell.TheVariants.{And, Or, Xor, Aig}
 use Rattle.rewrite.specs.Rewriter.{weight}
@@ -7,11 +7,11 @@ use Rattle.rewriter_state.specs.inner.Words.{rewriter_in}
 use Rattle.rewriter_cycle.proofs.Passes.{Forms}
 use Rattle.rewriter_cycle.proofs.+passes.Given as goal
 
-abbrev pub decreases-add_cell : goal.decreases-add_cell
-decreases-add_cell l = 8 * weight (rewriter_in l.x.now l.work.now).stamps l.c + 4
+abbrev pub decreases-add : goal.decreases-add
+decreases-add l = 8 * weight (rewriter_in l.x.now l.work.now).stamps l.c + 4
 
-abbrev pub decreases-process_cell : goal.decreases-process_cell
-decreases-process_cell l = 8 * weight (rewriter_in l.x.now l.work.now).stamps l.c + 3
+abbrev pub decreases-process : goal.decreases-process
+decreases-process l = 8 * weight (rewriter_in l.x.now l.work.now).stamps l.c + 3
 
 abbrev pub decreases-rules : goal.decreases-rules
 decreases-rules l = 8 * weight (rewriter_in l.x.now l.work.now).stamps l.c + 2
@@ -31,8 +31,8 @@ decreases-rewrite_or l = 8 * weight (rewriter_in l.x.now l.work.now).stamps (Or 
 abbrev pub decreases-rewrite_xor : goal.decreases-rewrite_xor
 decreases-rewrite_xor l = 8 * weight (rewriter_in l.x.now l.work.now).stamps (Xor l.a l.b)
 
-abbrev pub invariant-process_cell-loop-work : goal.invariant-process_cell-loop-work
-invariant-process_cell-loop-work l = Forms l.initial.x l.initial.work l.initial.d l.x l.work l.d l.left
+abbrev pub invariant-process-loop-work : goal.invariant-process-loop-work
+invariant-process-loop-work l = Forms l.initial.x l.initial.work l.initial.d l.x l.work l.d l.left
 
-abbrev pub decreases-process_cell-loop-work : goal.decreases-process_cell-loop-work
-decreases-process_cell-loop-work l = weight (rewriter_in l.x l.work).stamps l.d
+abbrev pub decreases-process-loop-work : goal.decreases-process-loop-work
+decreases-process-loop-work l = weight (rewriter_in l.x l.work).stamps l.d
